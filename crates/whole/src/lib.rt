@@ -1,0 +1,1 @@
+// Whole numbers, for proofs alone: laws of ℤ, powers, distances and quotients, all in proofs/.
