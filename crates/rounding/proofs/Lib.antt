@@ -1,1 +1,4 @@
-
+pub mod Tests
+pub mod Digits
+pub mod Places
+pub mod Computed

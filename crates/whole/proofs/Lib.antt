@@ -1,1 +1,5 @@
-
+pub mod Integers
+pub mod Linear
+pub mod Powers
+pub mod Distances
+pub mod Quotients
