@@ -2,3 +2,8 @@ pub mod Tests
 pub mod Digits
 pub mod Places
 pub mod Computed
+pub mod Units
+pub mod Signs
+pub mod Rivals
+pub mod Seen
+pub mod Meaning
