@@ -33,13 +33,17 @@ pub record Found (β p : ℕ) (x : Exact) : Type 0 where
 
 module _ (β p : ℕ) (two : 2 ≤ β) (some : 1 ≤ p) where
   -- n has p digits and j more
-  cut-place : (n j : ℕ) → β ^ (p - 1) * β ^ j ≤ n → n < β ^ p * β ^ j
+  pub cut-place : (n j : ℕ) → β ^ (p - 1) * β ^ j ≤ n → n < β ^ p * β ^ j
       → Placed (β ^ (p - 1)) (β ^ p) (β ^ j) n (n / β ^ j) (n % β ^ j) (raise (β ^ j) (n / β ^ j) (2 * (n % β ^ j)))
   cut-place n j lo hi =
       let full : 0 < β ^ j = power-pos β j two in
       record {
-        is = sym (div-add-mod' n (β ^ j)); w-lt = mod-lt n full;
-        d-lo = le-div-iff-mul-le full .1 lo; d-hi = div-lt-iff-lt-mul full .1 hi; raised = refl }
+        is = sym (div-add-mod' n (β ^ j));
+        w-lt = mod-lt n full;
+        d-lo = le-div-iff-mul-le full .1 lo;
+        d-hi = div-lt-iff-lt-mul full .1 hi;
+        raised = refl;
+      }
 
   pub found : (x : Exact) → 0 < natAbs (x .m) → Found β p x
   unfolding rounded
@@ -48,22 +52,28 @@ module _ (β p : ℕ) (two : 2 ≤ β) (some : 1 ≤ p) where
       let j : ℕ = digits β n - p in
       let wide : β ^ (p - 1) ≤ n = at-least (β ^ (p - 1)) (natAbs (x .m)) h in
       let long : p - 1 < digits β n =
-            power-order β (p - 1) (digits β n) two (omega (arith, wide, digits-high β n two)) in
+      power-order β (p - 1) (digits β n) two (omega (arith, wide, digits-high β n two)) in
       let lo : β ^ (p - 1) * β ^ j ≤ n = subst (λ (m : ℕ). m ≤ n)
-            (power-parts β (p - 1) j (digits β n - 1) (before (digits β n) long))
-            (digits-low β n two (omega (arith, wide, power-pos β (p - 1) two))) in
+      (power-parts β (p - 1) j (digits β n - 1) (before (digits β n) long))
+      (digits-low β n two (omega (arith, wide, power-pos β (p - 1) two))) in
       let hi : n < β ^ p * β ^ j = subst (λ (m : ℕ). n < m)
-            (power-parts β p j (digits β n) (whole (digits β n) long)) (digits-high β n two) in
+      (power-parts β p j (digits β n) (whole (digits β n) long)) (digits-high β n two) in
       let t : eqb (natAbs (x .m)) 0 ≡ false = grind (arith, tells) in
       record {
-        j = j; d = n / β ^ j; w = n % β ^ j; b = raise (β ^ j) (n / β ^ j) (2 * (n % β ^ j));
+        j = j;
+        d = n / β ^ j;
+        w = n % β ^ j;
+        b = raise (β ^ j) (n / β ^ j) (2 * (n % β ^ j));
         place = cut-place n j lo hi;
-        is = ap (λ (b : Bool). cond b zeroFigure (dropped β p x j)) t }
+        is = ap (λ (b : Bool). cond b zeroFigure (dropped β p x j)) t;
+      }
     where
       at-least : (B m : ℕ) → 0 < m → B ≤ m * B
       at-least B m some = omega (arith, mul-le-mul-right B some)
+
       before : (D : ℕ) → p - 1 < D → p - 1 + (D - p) ≡ D - 1
       before D h = omega arith
+
       whole : (D : ℕ) → p - 1 < D → p + (D - p) ≡ D
       whole D h = omega arith
 
@@ -77,23 +87,25 @@ module _ (β p : ℕ) (two : 2 ≤ β) (some : 1 ≤ p) where
       let c : ℕ = p - 1 - i in
       let ci : c + i ≡ p - 1 = steps (x .e) k below fine in
       let scaled = scaled-place (β ^ c) (β ^ (p - 1)) (β ^ p) (β ^ l) (natAbs (x .m) * β ^ i) d w b
-            (power-pos β c two) place in
+      (power-pos β c two) place in
       let wide : β ^ c * (natAbs (x .m) * β ^ i) ≡ widened β p x =
-            turn (β ^ c) (natAbs (x .m)) (β ^ i) ∙ ap (λ (n : ℕ). natAbs (x .m) * n) (sym (power-parts β c i (p - 1) ci)) in
+      turn (β ^ c) (natAbs (x .m)) (β ^ i) ∙ ap (λ (n : ℕ). natAbs (x .m) * n) (sym (power-parts β c i (p - 1) ci)) in
       let unit : β ^ c * β ^ l ≡ β ^ (c + l) = sym (power-parts β c l (c + l) refl) in
       let here : Placed (β ^ (p - 1)) (β ^ p) (β ^ (c + l)) (widened β p x) d (β ^ c * w) b =
-            subst (λ (T : ℕ). Placed (β ^ (p - 1)) (β ^ p) (β ^ (c + l)) T d (β ^ c * w) b) wide
-            (subst (λ (V : ℕ). Placed (β ^ (p - 1)) (β ^ p) V (β ^ c * (natAbs (x .m) * β ^ i)) d (β ^ c * w) b) unit
-              scaled) in
+      subst (λ (T : ℕ). Placed (β ^ (p - 1)) (β ^ p) (β ^ (c + l)) T d (β ^ c * w) b) wide
+      (subst (λ (V : ℕ). Placed (β ^ (p - 1)) (β ^ p) V (β ^ c * (natAbs (x .m) * β ^ i)) d (β ^ c * w) b) unit
+      scaled) in
       let same = same-place β p two some (widened β p x) (f .j) (c + l) (f .d) (f .w) (f .b) d (β ^ c * w) b
-            (f .place) here in
+      (f .place) here in
       f .is ∙ ap₂ (λ (s : ℕ) (q : ℤ). carried β p (negative (x .m)) s q) (same .1)
-        (level (x .e) k (f .j) below fine (same .0))
+      (level (x .e) k (f .j) below fine (same .0))
     where
       steps : (e k : ℤ) → k ≤ℤ e → (e -ℤ pos (p - 1)) ≤ℤ k → p - 1 - natAbs (e -ℤ k) + natAbs (e -ℤ k) ≡ p - 1
       steps e k a b = omega (arith, ints)
+
       turn : (C m I : ℕ) → C * (m * I) ≡ m * (C * I)
       turn C m I = omega arith
+
       level : (e k : ℤ) (j : ℕ) → k ≤ℤ e → (e -ℤ pos (p - 1)) ≤ℤ k → j ≡ p - 1 - natAbs (e -ℤ k) + l
           → e -ℤ pos (p - 1) +ℤ pos j ≡ k +ℤ pos l
       level e k j a b h = omega (arith, ints)

@@ -23,12 +23,15 @@ module _ (β : ℕ) (two : 2 ≤ β) where
   -- the digits before the last one, and the last one
   longer : (n d : ℕ) → β ≤ n → Length β (n / β) d → Length β n (suc d)
   longer n d h l = record {
-      k = suc (l .k); is = ap suc (l .is);
-      high = rw (pow-suc β (suc (l .k))) (div-lt-iff-lt-mul β-pos .0 (l .high));
-      low = inr (rw (pow-suc β (l .k)) (bottom (l .low))) }
+    k = suc (l .k);
+    is = ap suc (l .is);
+    high = rw (pow-suc β (suc (l .k))) (div-lt-iff-lt-mul β-pos .0 (l .high));
+    low = inr (rw (pow-suc β (l .k)) (bottom (l .low)));
+  }
     where
       β-pos : 0 < β
       β-pos = omega arith
+
       bottom : (l .k ≡ 0) ⊎ (β ^ l .k ≤ n / β) → β ^ l .k * β ≤ n
       bottom (inr g) = le-div-iff-mul-le β-pos .0 g
       bottom (inl z) = rw (z, pow-zero β) (omega arith)
@@ -60,7 +63,8 @@ digits-low β n two some =
     let l = length-of β two n in
     subst (λ (d : ℕ). β ^ d ≤ n) (before (l .k) (l .is)) (elim (l .low) [
       | inl z ↦ rw (z, pow-zero β) some
-      | inr g ↦ g ])
+      | inr g ↦ g
+    ])
   where
     before : (k : ℕ) → digits β n ≡ suc k → k ≡ digits β n - 1
     before k e = omega arith

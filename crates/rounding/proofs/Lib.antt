@@ -3,6 +3,7 @@ pub mod Digits
 pub mod Places
 pub mod Computed
 pub mod Units
+pub mod LastPlaces
 pub mod Signs
 pub mod Rivals
 pub mod Seen

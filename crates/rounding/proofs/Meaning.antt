@@ -34,9 +34,14 @@ chain a b c h g = omega (arith, ints)
 common : (a b c : ℤ) → (k : ℤ) × ((k ≤ℤ a) × (k ≤ℤ b) × (k ≤ℤ c))
 common a b c =
     let ab = lower a b in
-    let abc = lower (minZ a b) c in
-    (minZ (minZ a b) c, (chain (minZ (minZ a b) c) (minZ a b) a (abc .0) (ab .0),
-      chain (minZ (minZ a b) c) (minZ a b) b (abc .0) (ab .1), abc .1))
+    let abc = lower (minZ a b) c in (
+      minZ (minZ a b) c,
+      (
+        chain (minZ (minZ a b) c) (minZ a b) a (abc .0) (ab .0),
+        chain (minZ (minZ a b) c) (minZ a b) b (abc .0) (ab .1),
+        abc .1,
+      ),
+    )
 
 module _ (β p : ℕ) (even : β % 2 ≡ 0) (two : 2 ≤ β) (some : 2 ≤ p) where
   one : 1 ≤ p
@@ -53,7 +58,7 @@ module _ (β p : ℕ) (even : β % 2 ≡ 0) (two : 2 ≤ β) (some : 2 ≤ p) wh
   figure-grid : (g : Figure) (k : ℤ) (l : ℕ) → Normal β p g → OnGrid (β ^ (p - 1)) (β ^ l) (natAbs (units β k (value g)))
   figure-grid g k l n = subst (OnGrid (β ^ (p - 1)) (β ^ l)) (sym (units-size β g k))
       (on-grid β (β ^ (p - 1)) (β ^ p) two B-pos (power-split β p one) (natAbs (g .s)) (natAbs (g .q -ℤ k)) l
-        (normal-top g n))
+      (normal-top g n))
 
   -- a figure that is not zero somewhere has p digits
   full-digits : (g : Figure) (k : ℤ) → Normal β p g → 0 < natAbs (units β k (value g))
@@ -61,7 +66,7 @@ module _ (β p : ℕ) (even : β % 2 ≡ 0) (two : 2 ≤ β) (some : 2 ≤ p) wh
   full-digits g k (inr n) h = n
   full-digits g k (inl z) h = absurd (
       let none : units β k (value g) ≡ pos 0 =
-            ap (λ (s : ℤ). s *ℤ pos (β ^ natAbs (g .q -ℤ k))) (z .0) ∙ zero-*ℤ (pos (β ^ natAbs (g .q -ℤ k))) in
+      ap (λ (s : ℤ). s *ℤ pos (β ^ natAbs (g .q -ℤ k))) (z .0) ∙ zero-*ℤ (pos (β ^ natAbs (g .q -ℤ k))) in
       omega (arith, ap natAbs none))
 
   -- a number x that is not zero
@@ -82,9 +87,9 @@ module _ (β p : ℕ) (even : β % 2 ≡ 0) (two : 2 ≤ β) (some : 2 ≤ p) wh
         let T : ℕ = natAbs (x .m) * β ^ natAbs (x .e -ℤ k) in
         let γ : ℤ = units β k (value g) in
         let a = nearest (β ^ (p - 1)) (β ^ p) (β ^ s .l) T (s .d) (s .w) (s .b) B-pos (s .place) (natAbs γ)
-              (figure-grid g k (s .l) n) in
+        (figure-grid g k (s .l) n) in
         let b : gap (natAbs γ) T ≤ distance β k (value g) x = subst (λ (u : ℤ). gap (natAbs γ) T ≤ natAbs (γ -ℤ u))
-              (sym (x-units k)) (sizes-nearer (negative (x .m)) γ T) in
+        (sym (x-units k)) (sizes-nearer (negative (x .m)) γ T) in
         subst (λ (u : ℕ). u ≤ distance β k (value g) x) (sym (off k s)) (omega arith)
 
     -- what is as near is the same figure, or the odd neighbour in a tie
@@ -97,51 +102,65 @@ module _ (β p : ℕ) (even : β % 2 ≡ 0) (two : 2 ≤ β) (some : 2 ≤ p) wh
       where
         s : Seen β p x (rounded β p x) k
         s = seen β p even two some x full k fine
+
         T : ℕ
         T = natAbs (x .m) * β ^ natAbs (x .e -ℤ k)
+
         F : ℕ
         F = (s .d + s .b) * β ^ s .l
+
         γ : ℤ
         γ = units β k (value g)
+
         near : gap F T < T
         near = closer (β ^ (p - 1)) (β ^ p) (β ^ s .l) T (s .d) (s .w) (s .b) B-pos (s .place)
+
         equal : gap F T ≡ natAbs (γ -ℤ signed (negative (x .m)) T)
         equal = sym (off k s) ∙ e ∙ ap (λ (u : ℤ). natAbs (γ -ℤ u)) (x-units k)
+
         side : (γ ≡ signed (negative (x .m)) (natAbs γ)) × (gap (natAbs γ) T ≡ gap F T)
         side = same-side (negative (x .m)) γ T (gap F T) equal near
+
         met : (natAbs γ ≡ F) ⊎ Tie (β ^ s .l) (s .d) (s .b) (natAbs γ)
         met = rival (β ^ (p - 1)) (β ^ p) (β ^ s .l) T (s .d) (s .w) (s .b) B-pos (s .place) (natAbs γ)
             (figure-grid g k (s .l) n) (side .1)
+
         g-sign : g .s ≡ signed (negative (x .m)) (natAbs (g .s))
         g-sign = factor-sign (negative (x .m)) (g .s) (β ^ natAbs (g .q -ℤ k))
             (power-pos β (natAbs (g .q -ℤ k)) two) (side .0)
+
         positive : (m : ℕ) → 1 ≤ m → natAbs γ ≡ m * β ^ s .l → 0 < natAbs γ
         positive m h e = omega (arith, mul-le-mul h (power-pos β (s .l) two))
+
         level : (a b : ℤ) → k ≤ℤ a → k ≤ℤ b → natAbs (a -ℤ k) ≡ natAbs (b -ℤ k) → a ≡ b
         level a b h g e = omega (arith, ints)
+
         same : natAbs γ ≡ F → rounded β p x ≡ g
         same r =
             let digits = full-digits g k n (positive (s .d + s .b) (omega (arith, B-pos, s .place .d-lo)) r) in
             let forms = same-form β (β ^ (p - 1)) (β ^ p) two B-pos (power-split β p one)
-                  (natAbs (rounded β p x .s)) (natAbs (g .s)) (natAbs (rounded β p x .q -ℤ k)) (natAbs (g .q -ℤ k))
-                  (s .least) (s .most) (digits .0) (digits .1)
-                  (sym (units-size β (rounded β p x) k) ∙ ap natAbs (s .is) ∙ signed-size (negative (x .m)) F ∙ sym r
-                    ∙ units-size β g k) in
+            (natAbs (rounded β p x .s)) (natAbs (g .s)) (natAbs (rounded β p x .q -ℤ k)) (natAbs (g .q -ℤ k))
+            (s .least) (s .most) (digits .0) (digits .1)
+            (sym (units-size β (rounded β p x) k) ∙ ap natAbs (s .is) ∙ signed-size (negative (x .m)) F ∙ sym r
+            ∙ units-size β g k) in
             let ss : rounded β p x .s ≡ g .s = s .sign ∙ ap (signed (negative (x .m))) (forms .0) ∙ sym g-sign in
             let qq : rounded β p x .q ≡ g .q = level (rounded β p x .q) (g .q) (s .below) kg (forms .1) in
             (λ t. record { s = ss t; q = qq t })
+
         below-top : (m P d : ℕ) → m % 2 ≡ 1 → P % 2 ≡ 0 → m ≤ d + 1 → d < P → m < P
         below-top m P d a b c e = elim (cases-lt m P) [
           | inl h ↦ h
-          | inr h ↦ absurd (let q : m ≡ P = omega arith in omega (arith, ap (λ (n : ℕ). n % 2) q)) ]
+          | inr h ↦ absurd (let q : m ≡ P = omega arith in omega (arith, ap (λ (n : ℕ). n % 2) q))
+        ]
+
         odd : Tie (β ^ s .l) (s .d) (s .b) (natAbs γ) → natAbs (g .s) % 2 ≡ 1
         odd r =
             let digits = full-digits g k n (positive (r .m) (omega (arith, B-pos, s .place .d-lo, r .lo)) (r .is)) in
             let top : r .m < β ^ p =
-                  below-top (r .m) (β ^ p) (s .d) (r .odd) (power-even β p even one) (r .hi) (s .place .d-hi) in
+            below-top (r .m) (β ^ p) (s .d) (r .odd) (power-even β p even one) (r .hi) (s .place .d-hi) in
             let forms = same-form β (β ^ (p - 1)) (β ^ p) two B-pos (power-split β p one)
-                  (natAbs (g .s)) (r .m) (natAbs (g .q -ℤ k)) (s .l)
-                  (digits .0) (digits .1) (omega (arith, s .place .d-lo, r .lo)) top (sym (units-size β g k) ∙ r .is) in
+            (natAbs (g .s)) (r .m) (natAbs (g .q -ℤ k)) (s .l)
+            (digits .0) (digits .1) (omega (arith, s .place .d-lo, r .lo)) top (sym (units-size β g k) ∙ r .is) in
             ap (λ (n : ℕ). n % 2) (forms .0) ∙ r .odd
 
     -- in any common unit, by way of a finer one
@@ -151,11 +170,11 @@ module _ (β p : ℕ) (even : β % 2 ≡ 0) (two : 2 ≤ β) (some : 2 ≤ p) wh
         let l = lower k (x .e -ℤ pos (p - 1)) in
         let m : ℤ = minZ k (x .e -ℤ pos (p - 1)) in
         cancel-le (distance β k (value (rounded β p x)) x) (distance β k (value g) x) (β ^ natAbs (k -ℤ m))
-          (power-pos β (natAbs (k -ℤ m)) two)
-          (subst (λ (a : ℕ). a ≤ distance β k (value g) x * β ^ natAbs (k -ℤ m))
-            (distance-finer β m k (value (rounded β p x)) x (l .0) (c .1) (c .0))
-            (subst (λ (a : ℕ). distance β m (value (rounded β p x)) x ≤ a)
-              (distance-finer β m k (value g) x (l .0) (c .2) (c .0)) (best-fine g n m (l .1))))
+        (power-pos β (natAbs (k -ℤ m)) two)
+        (subst (λ (a : ℕ). a ≤ distance β k (value g) x * β ^ natAbs (k -ℤ m))
+        (distance-finer β m k (value (rounded β p x)) x (l .0) (c .1) (c .0))
+        (subst (λ (a : ℕ). distance β m (value (rounded β p x)) x ≤ a)
+        (distance-finer β m k (value g) x (l .0) (c .2) (c .0)) (best-fine g n m (l .1))))
 
     outcome : (g : Figure) → Normal β p g → (k : ℤ) → Common k x (rounded β p x) g
         → distance β k (value (rounded β p x)) x ≡ distance β k (value g) x → Outcome g
@@ -163,9 +182,9 @@ module _ (β p : ℕ) (even : β % 2 ≡ 0) (two : 2 ≤ β) (some : 2 ≤ p) wh
         let l = lower k (x .e -ℤ pos (p - 1)) in
         let m : ℤ = minZ k (x .e -ℤ pos (p - 1)) in
         outcome-fine g n m (l .1) (chain m k (g .q) (l .0) (c .2))
-          (distance-finer β m k (value (rounded β p x)) x (l .0) (c .1) (c .0)
-            ∙ ap (λ (a : ℕ). a * β ^ natAbs (k -ℤ m)) e
-            ∙ sym (distance-finer β m k (value g) x (l .0) (c .2) (c .0)))
+        (distance-finer β m k (value (rounded β p x)) x (l .0) (c .1) (c .0)
+        ∙ ap (λ (a : ℕ). a * β ^ natAbs (k -ℤ m)) e
+        ∙ sym (distance-finer β m k (value g) x (l .0) (c .2) (c .0)))
 
     full-nearest : Nearest β p x (rounded β p x)
     full-nearest =
@@ -174,7 +193,8 @@ module _ (β p : ℕ) (even : β % 2 ≡ 0) (two : 2 ≤ β) (some : 2 ≤ p) wh
         record {
           normal = inr (s .least, s .most);
           best = best;
-          even = λ g n k c e. elim (outcome g n k c e) [ inl h ↦ inl h | inr h ↦ inr (h .0) ] }
+          even = λ g n k c e. elim (outcome g n k c e) [ inl h ↦ inl h | inr h ↦ inr (h .0) ];
+        }
       where
         same : (k : ℤ) → k ≤ℤ k
         same k = omega (arith, ints)
@@ -190,8 +210,10 @@ module _ (β p : ℕ) (even : β % 2 ≡ 0) (two : 2 ≤ β) (some : 2 ≤ p) wh
         elim (outcome f (n .normal) (k .0) (k .1) e) [
           | inl h ↦ sym h
           | inr h ↦ elim (n .even (rounded β p x) (full-nearest .normal) (k .0) swapped (sym e)) [
-              | inl g ↦ g
-              | inr g ↦ absurd (omega (arith, h .1, g)) ] ]
+            | inl g ↦ g
+            | inr g ↦ absurd (omega (arith, h .1, g))
+          ]
+        ]
 
   -- zero
   module _ (x : Exact) (none : x .m ≡ pos 0) where
@@ -210,30 +232,34 @@ module _ (β p : ℕ) (even : β % 2 ≡ 0) (two : 2 ≤ β) (some : 2 ≤ p) wh
 
     zero-nearest : Nearest β p x zeroFigure
     zero-nearest = record {
-        normal = inl (refl, refl);
-        best = λ g n k c. subst (λ (u : ℕ). u ≤ distance β k (value g) x) (sym (zero-off k)) zero-le;
-        even = λ g n k c e. inr refl }
+      normal = inl (refl, refl);
+      best = λ g n k c. subst (λ (u : ℕ). u ≤ distance β k (value g) x) (sym (zero-off k)) zero-le;
+      even = λ g n k c e. inr refl;
+    }
 
     zero-only : (f : Figure) → Nearest β p x f → f ≡ zeroFigure
     zero-only f n = elim (n .normal) [
-        | inl z ↦ (λ t. record { s = z .0 t; q = z .1 t })
-        | inr d ↦ absurd (
-            let k = common (x .e) (f .q) (pos 0) in
-            let near = n .best zeroFigure (inl (refl, refl)) (k .0) (k .1) in
-            let G : ℕ = β ^ natAbs (f .q -ℤ k .0) in
-            let gone : natAbs (f .s) * G ≤ 0 = subst (λ (a : ℕ). a ≤ 0) (from-zero f (k .0) ∙ units-size β f (k .0))
-                  (omega (arith, zero-off (k .0))) in
-            let digits : 1 ≤ natAbs (f .s) = omega (arith, B-pos, d .0) in
-            omega (arith, mul-le-mul digits (power-pos β (natAbs (f .q -ℤ k .0)) two))) ]
+      | inl z ↦ (λ t. record { s = z .0 t; q = z .1 t })
+      | inr d ↦ absurd (
+          let k = common (x .e) (f .q) (pos 0) in
+          let near = n .best zeroFigure (inl (refl, refl)) (k .0) (k .1) in
+          let G : ℕ = β ^ natAbs (f .q -ℤ k .0) in
+          let gone : natAbs (f .s) * G ≤ 0 = subst (λ (a : ℕ). a ≤ 0) (from-zero f (k .0) ∙ units-size β f (k .0))
+          (omega (arith, zero-off (k .0))) in
+          let digits : 1 ≤ natAbs (f .s) = omega (arith, B-pos, d .0) in
+          omega (arith, mul-le-mul digits (power-pos β (natAbs (f .q -ℤ k .0)) two)))
+    ]
 
 pub rounds-to-nearest : Rounds-to-nearest
 rounds-to-nearest β p even two some x = elim (cases-lt 0 (natAbs (x .m))) [
   | inl full ↦ (full-nearest β p even two some x full, full-only β p even two some x full)
   | inr z ↦ (
       let none : x .m ≡ pos 0 = nil (x .m) z in
-      let r : rounded β p x ≡ zeroFigure = rounded-zero β p x (omega arith) in
-      (subst (Nearest β p x) (sym r) (zero-nearest β p even two some x none),
-        λ f n. zero-only β p even two some x none f n ∙ sym r)) ]
+      let r : rounded β p x ≡ zeroFigure = rounded-zero β p x (omega arith) in (
+        subst (Nearest β p x) (sym r) (zero-nearest β p even two some x none),
+        λ f n. zero-only β p even two some x none f n ∙ sym r,
+      ))
+]
   where
     nil : (m : ℤ) → natAbs m ≤ 0 → m ≡ pos 0
     nil m h = omega (arith, ints)

@@ -27,7 +27,8 @@ pub record Tie (V d b G : ℕ) : Type 0 where
 order : (a b : ℕ) → (a < b) ⊎ ((a ≡ b) ⊎ (b < a))
 order a b = elim (cases-lt a b) [
   | inl h ↦ inl h
-  | inr h ↦ elim (cases-lt b a) [ inl g ↦ inr (inr g) | inr g ↦ inr (inl (omega arith)) ] ]
+  | inr h ↦ elim (cases-lt b a) [ inl g ↦ inr (inr g) | inr g ↦ inr (inl (omega arith)) ]
+]
 
 module _ (B P V T d w b : ℕ) (some : 1 ≤ B) (place : Placed B P V T d w b) where
   -- which way the rounding went, and how far
@@ -56,9 +57,10 @@ module _ (B P V T d w b : ℕ) (some : 1 ≤ B) (place : Placed B P V T d w b) w
     | inl h ↦ inl (down (place .raised ∙ raise-less V d (2 * w) h) (omega arith))
     | inr (inr h) ↦ inr (up (place .raised ∙ raise-more V d (2 * w) h) (omega arith))
     | inr (inl h) ↦ (let few : b ≤ 1 = omega (arith, place .raised, raise-few V d (2 * w)) in elim (cases-lt 0 b) [
-        | inl g ↦ inr (up (omega arith) (omega arith))
-        | inr g ↦ inl (down (omega arith) (omega arith)) ])
-    ]
+      | inl g ↦ inr (up (omega arith) (omega arith))
+      | inr g ↦ inl (down (omega arith) (omega arith))
+    ])
+  ]
 
   V-pos : 0 < V
   V-pos = let l : w < V = place .w-lt in omega arith
@@ -69,22 +71,26 @@ module _ (B P V T d w b : ℕ) (some : 1 ≤ B) (place : Placed B P V T d w b) w
       let l : 1 * V ≤ d * V = mul-le-mul-right V (omega (arith, place .d-lo)) in
       elim way [
         | inl a ↦ omega (arith, a .far, place .is, place .w-lt)
-        | inr a ↦ omega (arith, a .half, a .far, place .is, V-pos) ]
+        | inr a ↦ omega (arith, a .half, a .far, place .is, V-pos)
+      ]
 
   pub nearest : (G : ℕ) → OnGrid B V G → gap ((d + b) * V) T ≤ gap G T
   nearest G (inr small) =
       let l : B * V ≤ d * V = mul-le-mul-right V (place .d-lo) in
       elim way [
         | inl a ↦ omega (arith, a .far, place .is)
-        | inr a ↦ omega (arith, a .half, a .far, place .is) ]
+        | inr a ↦ omega (arith, a .half, a .far, place .is)
+      ]
   nearest G (inl (m, g)) = elim (cases-lt d m) [
     | inl l ↦ (let k : (d + 1) * V ≤ m * V = mul-le-mul-right V (omega arith) in elim way [
-        | inl a ↦ omega (arith, a .half, a .far, place .is)
-        | inr a ↦ omega (arith, a .half, a .far, place .is, place .w-lt) ])
+      | inl a ↦ omega (arith, a .half, a .far, place .is)
+      | inr a ↦ omega (arith, a .half, a .far, place .is, place .w-lt)
+    ])
     | inr l ↦ (let k : m * V ≤ d * V = mul-le-mul-right V l in elim way [
-        | inl a ↦ omega (arith, a .half, a .far, place .is)
-        | inr a ↦ omega (arith, a .half, a .far, place .is) ])
-    ]
+      | inl a ↦ omega (arith, a .half, a .far, place .is)
+      | inr a ↦ omega (arith, a .half, a .far, place .is)
+    ])
+  ]
 
   tie-even : 2 * w ≡ V → (d + b) % 2 ≡ 0
   tie-even h = even d b (place .raised ∙ raise-tie V d (2 * w) h)
@@ -102,36 +108,53 @@ module _ (B P V T d w b : ℕ) (some : 1 ≤ B) (place : Placed B P V T d w b) w
   next : (m : ℕ) → m * V ≤ d * V + V → d < m → m ≡ d + 1
   next m h l = elim (cases-lt (d + 1) m) [
     | inl j ↦ absurd (let i : (d + 2) * V ≤ m * V = mul-le-mul-right V (omega arith) in omega (arith, V-pos))
-    | inr j ↦ omega arith ]
+    | inr j ↦ omega arith
+  ]
 
   pub rival : (G : ℕ) → OnGrid B V G → gap G T ≡ gap ((d + b) * V) T → (G ≡ (d + b) * V) ⊎ Tie V d b G
   rival G (inr small) e =
       absurd (let l : B * V ≤ d * V = mul-le-mul-right V (place .d-lo) in elim way [
         | inl a ↦ omega (arith, a .far, place .is)
-        | inr a ↦ omega (arith, a .half, a .far, place .is) ])
+        | inr a ↦ omega (arith, a .half, a .far, place .is)
+      ])
   rival G (inl (m, g)) e = elim (order m d) [
     | inl l ↦ absurd (let k : (m + 1) * V ≤ d * V = mul-le-mul-right V (omega arith) in elim way [
-        | inl a ↦ omega (arith, a .far, place .is, V-pos)
-        | inr a ↦ omega (arith, a .half, a .far, place .is, V-pos) ])
+      | inl a ↦ omega (arith, a .far, place .is, V-pos)
+      | inr a ↦ omega (arith, a .half, a .far, place .is, V-pos)
+    ])
     | inr (inl l) ↦ elim way [
-        | inl a ↦ inl (g ∙ ap (λ (n : ℕ). n * V) (omega (arith, a .none)))
-        | inr a ↦
-            let k : m * V ≡ d * V = ap (λ (n : ℕ). n * V) l in
-            let h : 2 * w ≡ V = omega (arith, a .half, a .far, place .is, place .w-lt) in
-            inr (record { even = tie-even h; m = m; is = g; lo = omega arith; hi = omega arith;
-              odd = odd-neighbour m h (omega (arith, a .one)) }) ]
+      | inl a ↦ inl (g ∙ ap (λ (n : ℕ). n * V) (omega (arith, a .none)))
+      | inr a ↦
+          let k : m * V ≡ d * V = ap (λ (n : ℕ). n * V) l in
+          let h : 2 * w ≡ V = omega (arith, a .half, a .far, place .is, place .w-lt) in
+          inr (record {
+            even = tie-even h;
+            m = m;
+            is = g;
+            lo = omega arith;
+            hi = omega arith;
+            odd = odd-neighbour m h (omega (arith, a .one));
+          })
+    ]
     | inr (inr l) ↦
         let k : (d + 1) * V ≤ m * V = mul-le-mul-right V (omega arith) in
         elim way [
           | inl a ↦
               let h : 2 * w ≡ V = omega (arith, a .half, a .far, place .is, place .w-lt) in
               let n : m ≡ d + 1 = next m (omega (arith, a .half, a .far, place .is)) l in
-              inr (record { even = tie-even h; m = m; is = g; lo = omega arith; hi = omega arith;
-                odd = odd-neighbour m h (omega (arith, a .none)) })
+              inr (record {
+                even = tie-even h;
+                m = m;
+                is = g;
+                lo = omega arith;
+                hi = omega arith;
+                odd = odd-neighbour m h (omega (arith, a .none));
+              })
           | inr a ↦
               let n : m ≡ d + 1 = next m (omega (arith, a .half, a .far, place .is, place .w-lt)) l in
-              inl (g ∙ ap (λ (n : ℕ). n * V) (omega (arith, a .one))) ]
-    ]
+              inl (g ∙ ap (λ (n : ℕ). n * V) (omega (arith, a .one)))
+        ]
+  ]
 
 module _ (β B P : ℕ) (two : 2 ≤ β) (some : 1 ≤ B) (PB : P ≡ β * B) where
   -- s < P units of a lower power lie below B units of the higher one
@@ -140,6 +163,7 @@ module _ (β B P : ℕ) (two : 2 ≤ β) (some : 1 ≤ B) (PB : P ≡ β * B) wh
     where
       next : (i : ℕ) → β ^ (i + 1) ≡ β ^ i * β
       next i = ap (λ (n : ℕ). β ^ n) (omega arith) ∙ pow-suc β i
+
       go : (I L J : ℕ) → 0 < I → J ≡ I * β → J ≤ L → s * I < B * L
       go I L J some e k =
           let a : s * I < P * I = mul-lt-mul-of-pos-right h some in
@@ -151,15 +175,20 @@ module _ (β B P : ℕ) (two : 2 ≤ β) (some : 1 ≤ B) (PB : P ≡ β * B) wh
   pub on-grid : (s i l : ℕ) → s < P → OnGrid B (β ^ l) (s * β ^ i)
   on-grid s i l h = elim (cases-lt i l) [
     | inl g ↦ inr (below s i l h g)
-    | inr g ↦ inl (s * β ^ (i - l), ap (λ (n : ℕ). s * n) (power-parts β (i - l) l i (omega arith))
-        ∙ sym (mul-assoc s (β ^ (i - l)) (β ^ l))) ]
+    | inr g ↦ inl (
+      s * β ^ (i - l),
+      ap (λ (n : ℕ). s * n) (power-parts β (i - l) l i (omega arith))
+          ∙ sym (mul-assoc s (β ^ (i - l)) (β ^ l)),
+    )
+  ]
 
   -- a number has one normal form
   pub same-form : (s t i l : ℕ) → B ≤ s → s < P → B ≤ t → t < P → s * β ^ i ≡ t * β ^ l → (s ≡ t) × (i ≡ l)
   same-form s t i l a b c d e = elim (order i l) [
     | inl g ↦ absurd (clash s t i l b c g e)
     | inr (inr g) ↦ absurd (clash t s l i d a g (sym e))
-    | inr (inl g) ↦ (cancel-eq s t (β ^ l) (power-pos β l two) (ap (λ (n : ℕ). s * β ^ n) (sym g) ∙ e), g) ]
+    | inr (inl g) ↦ (cancel-eq s t (β ^ l) (power-pos β l two) (ap (λ (n : ℕ). s * β ^ n) (sym g) ∙ e), g)
+  ]
     where
       clash : (s t i l : ℕ) → s < P → B ≤ t → i < l → s * β ^ i ≡ t * β ^ l → ⊥
       clash s t i l h k g e = omega (arith, below s i l h g, mul-le-mul-right (β ^ l) k)

@@ -30,7 +30,7 @@ pub carried-cases : (β p : ℕ) (neg : Bool) (s : ℕ) (q : ℤ) (f : Figure) �
     → Plain β p neg s q f ⊎ Carry β p neg s q f
 carried-cases β p neg s q f e =
     let pick : Bool → Figure = λ b. cond b (record { s = signed neg s; q = q })
-          (record { s = signed neg (β ^ (p - 1)); q = q +ℤ pos 1 }) in
+    (record { s = signed neg (β ^ (p - 1)); q = q +ℤ pos 1 }) in
     by-ltb (Plain β p neg s q f ⊎ Carry β p neg s q f) s (β ^ p)
     (λ l t. inl (record { fits = l; is = e ∙ ap pick t }))
     (λ l t. inr (record { full = l; is = e ∙ ap pick t }))
@@ -61,69 +61,93 @@ module _ (β p : ℕ) (even : β % 2 ≡ 0) (two : 2 ≤ β) (some : 2 ≤ p) (x
 
   pub seen : (k : ℤ) → k ≤ℤ (x .e -ℤ pos (p - 1)) → Seen β p x (rounded β p x) k
   seen k fine = elim (carried-cases β p (negative (x .m)) (f .d + f .b) q (rounded β p x) (f .is)) [
-      | inl h ↦ record {
-          l = c + f .j; d = f .d; w = β ^ c * f .w; b = f .b; place = place;
-          is = ap (λ (g : Figure). units β k (value g)) (h .is)
-            ∙ ap (λ (n : ℕ). signed (negative (x .m)) (f .d + f .b) *ℤ pos (β ^ n)) (reach (x .e) (f .j) fine)
-            ∙ signed-times (negative (x .m)) (f .d + f .b) (β ^ (c + f .j));
-          below = subst (λ (g : Figure). k ≤ℤ g .q) (sym (h .is)) (under (x .e) (f .j) fine);
-          least = subst (λ (n : ℕ). β ^ (p - 1) ≤ n) (sym (size h)) (omega (arith, f .place .d-lo));
-          most = subst (λ (n : ℕ). n < β ^ p) (sym (size h)) (h .fits);
-          sign = ap (λ (g : Figure). g .s) (h .is) ∙ sym (ap (signed (negative (x .m))) (size h));
-          parity = λ e. ap (λ (n : ℕ). n % 2) (size h) ∙ e }
-      | inr h ↦ record {
-          l = c + f .j; d = f .d; w = β ^ c * f .w; b = f .b; place = place;
-          is = ap (λ (g : Figure). units β k (value g)) (h .is)
-            ∙ ap (λ (n : ℕ). signed (negative (x .m)) (β ^ (p - 1)) *ℤ pos (β ^ n)) (reach-next (x .e) (f .j) fine)
-            ∙ signed-times (negative (x .m)) (β ^ (p - 1)) (β ^ (1 + (c + f .j)))
-            ∙ ap (signed (negative (x .m))) (renormal (c + f .j) (whole h));
-          below = subst (λ (g : Figure). k ≤ℤ g .q) (sym (h .is)) (under-next (x .e) (f .j) fine);
-          least = subst (λ (n : ℕ). β ^ (p - 1) ≤ n) (sym (least-size h)) (omega arith);
-          most = subst (λ (n : ℕ). n < β ^ p) (sym (least-size h)) B-lt-P;
-          sign = ap (λ (g : Figure). g .s) (h .is) ∙ sym (ap (signed (negative (x .m))) (least-size h));
-          parity = λ _. ap (λ (n : ℕ). n % 2) (least-size h) ∙ power-even β (p - 1) even (omega arith) }
-      ]
+    | inl h ↦ record {
+      l = c + f .j;
+      d = f .d;
+      w = β ^ c * f .w;
+      b = f .b;
+      place = place;
+      is = ap (λ (g : Figure). units β k (value g)) (h .is)
+          ∙ ap (λ (n : ℕ). signed (negative (x .m)) (f .d + f .b) *ℤ pos (β ^ n)) (reach (x .e) (f .j) fine)
+          ∙ signed-times (negative (x .m)) (f .d + f .b) (β ^ (c + f .j));
+      below = subst (λ (g : Figure). k ≤ℤ g .q) (sym (h .is)) (under (x .e) (f .j) fine);
+      least = subst (λ (n : ℕ). β ^ (p - 1) ≤ n) (sym (size h)) (omega (arith, f .place .d-lo));
+      most = subst (λ (n : ℕ). n < β ^ p) (sym (size h)) (h .fits);
+      sign = ap (λ (g : Figure). g .s) (h .is) ∙ sym (ap (signed (negative (x .m))) (size h));
+      parity = λ e. ap (λ (n : ℕ). n % 2) (size h) ∙ e;
+    }
+    | inr h ↦ record {
+      l = c + f .j;
+      d = f .d;
+      w = β ^ c * f .w;
+      b = f .b;
+      place = place;
+      is = ap (λ (g : Figure). units β k (value g)) (h .is)
+          ∙ ap (λ (n : ℕ). signed (negative (x .m)) (β ^ (p - 1)) *ℤ pos (β ^ n)) (reach-next (x .e) (f .j) fine)
+          ∙ signed-times (negative (x .m)) (β ^ (p - 1)) (β ^ (1 + (c + f .j)))
+          ∙ ap (signed (negative (x .m))) (renormal (c + f .j) (whole h));
+      below = subst (λ (g : Figure). k ≤ℤ g .q) (sym (h .is)) (under-next (x .e) (f .j) fine);
+      least = subst (λ (n : ℕ). β ^ (p - 1) ≤ n) (sym (least-size h)) (omega arith);
+      most = subst (λ (n : ℕ). n < β ^ p) (sym (least-size h)) B-lt-P;
+      sign = ap (λ (g : Figure). g .s) (h .is) ∙ sym (ap (signed (negative (x .m))) (least-size h));
+      parity = λ _. ap (λ (n : ℕ). n % 2) (least-size h) ∙ power-even β (p - 1) even (omega arith);
+    }
+  ]
     where
       f : Found β p x
       f = found β p two one x full
+
       q : ℤ
       q = x .e -ℤ pos (p - 1) +ℤ pos (f .j)
+
       c : ℕ
       c = natAbs (x .e -ℤ pos (p - 1) -ℤ k)
+
       -- the widened digits in units of β^k
       spread : (e : ℤ) → k ≤ℤ (e -ℤ pos (p - 1)) → natAbs (e -ℤ pos (p - 1) -ℤ k) + (p - 1) ≡ natAbs (e -ℤ k)
       spread e h = omega (arith, ints)
+
       turn : (C m B : ℕ) → C * (m * B) ≡ m * (C * B)
       turn C m B = omega arith
+
       wide : β ^ c * widened β p x ≡ natAbs (x .m) * β ^ natAbs (x .e -ℤ k)
       wide = turn (β ^ c) (natAbs (x .m)) (β ^ (p - 1))
-        ∙ ap (λ (n : ℕ). natAbs (x .m) * n) (sym (power-parts β c (p - 1) (natAbs (x .e -ℤ k)) (spread (x .e) fine)))
+          ∙ ap (λ (n : ℕ). natAbs (x .m) * n) (sym (power-parts β c (p - 1) (natAbs (x .e -ℤ k)) (spread (x .e) fine)))
+
       place : Placed (β ^ (p - 1)) (β ^ p) (β ^ (c + f .j)) (natAbs (x .m) * β ^ natAbs (x .e -ℤ k))
           (f .d) (β ^ c * f .w) (f .b)
       place =
           subst (λ (T : ℕ). Placed (β ^ (p - 1)) (β ^ p) (β ^ (c + f .j)) T (f .d) (β ^ c * f .w) (f .b)) wide
           (subst (λ (V : ℕ). Placed (β ^ (p - 1)) (β ^ p) V (β ^ c * widened β p x) (f .d) (β ^ c * f .w) (f .b))
-            (sym (power-parts β c (f .j) (c + f .j) refl))
-            (scaled-place (β ^ c) (β ^ (p - 1)) (β ^ p) (β ^ f .j) (widened β p x) (f .d) (f .w) (f .b)
-              (power-pos β c two) (f .place)))
+          (sym (power-parts β c (f .j) (c + f .j) refl))
+          (scaled-place (β ^ c) (β ^ (p - 1)) (β ^ p) (β ^ f .j) (widened β p x) (f .d) (f .w) (f .b)
+          (power-pos β c two) (f .place)))
+
       -- exponents above k
       under : (e : ℤ) (j : ℕ) → k ≤ℤ (e -ℤ pos (p - 1)) → k ≤ℤ (e -ℤ pos (p - 1) +ℤ pos j)
       under e j h = omega (arith, ints)
+
       under-next : (e : ℤ) (j : ℕ) → k ≤ℤ (e -ℤ pos (p - 1)) → k ≤ℤ (e -ℤ pos (p - 1) +ℤ pos j +ℤ pos 1)
       under-next e j h = omega (arith, ints)
+
       reach : (e : ℤ) (j : ℕ) → k ≤ℤ (e -ℤ pos (p - 1))
           → natAbs (e -ℤ pos (p - 1) +ℤ pos j -ℤ k) ≡ natAbs (e -ℤ pos (p - 1) -ℤ k) + j
       reach e j h = omega (arith, ints)
+
       reach-next : (e : ℤ) (j : ℕ) → k ≤ℤ (e -ℤ pos (p - 1))
           → natAbs (e -ℤ pos (p - 1) +ℤ pos j +ℤ pos 1 -ℤ k) ≡ 1 + (natAbs (e -ℤ pos (p - 1) -ℤ k) + j)
       reach-next e j h = omega (arith, ints)
+
       -- significands
       size : Plain β p (negative (x .m)) (f .d + f .b) q (rounded β p x) → natAbs (rounded β p x .s) ≡ f .d + f .b
       size h = ap (λ (g : Figure). natAbs (g .s)) (h .is) ∙ signed-size (negative (x .m)) (f .d + f .b)
+
       least-size : Carry β p (negative (x .m)) (f .d + f .b) q (rounded β p x) → natAbs (rounded β p x .s) ≡ β ^ (p - 1)
       least-size h = ap (λ (g : Figure). natAbs (g .s)) (h .is) ∙ signed-size (negative (x .m)) (β ^ (p - 1))
+
       whole : Carry β p (negative (x .m)) (f .d + f .b) q (rounded β p x) → f .d + f .b ≡ β ^ p
       whole h = omega (arith, h .full, f .place .d-hi, f .place .raised, raise-few (β ^ f .j) (f .d) (2 * f .w))
+
       renormal : (l : ℕ) → f .d + f .b ≡ β ^ p → β ^ (p - 1) * β ^ (1 + l) ≡ (f .d + f .b) * β ^ l
       renormal l e =
           ap (λ (n : ℕ). β ^ (p - 1) * n) (power-parts β 1 l (1 + l) refl ∙ ap (λ (n : ℕ). n * β ^ l) (power-one β))

@@ -43,7 +43,8 @@ same-side false (pos g) T n e l = (refl, omega (arith, ints))
 same-side false (negsuc g) T n e l = absurd (omega (arith, ints))
 same-side true (pos g) T n e l = elim (cases-lt 0 g) [
   | inl h ↦ absurd (omega (arith, ints))
-  | inr h ↦ absurd (omega (arith, ints)) ]
+  | inr h ↦ absurd (omega (arith, ints))
+]
 same-side true (negsuc g) T n e l = (refl, omega (arith, ints))
 
 -- a significand has its number's sign
@@ -54,5 +55,6 @@ factor-sign false (negsuc s) V some e =
     absurd (let h : 1 * 1 ≤ suc s * V = mul-le-mul {n₁ = 1} {m₁ = 1} (omega arith) some in omega (arith, ints))
 factor-sign true (pos s) V some e = elim (cases-lt 0 s) [
   | inl h ↦ absurd (let k : 1 * 1 ≤ s * V = mul-le-mul h some in omega (arith, ints))
-  | inr h ↦ omega (arith, ints) ]
+  | inr h ↦ omega (arith, ints)
+]
 factor-sign true (negsuc s) V some e = refl

@@ -23,8 +23,9 @@ units β k x = x .m *ℤ pos (β ^ natAbs (x .e -ℤ k))
 -- the exact sum, in units of the lower of the two powers
 abbrev pub plus : ℕ → Exact → Exact → Exact
 plus β x y = record {
-    m = units β (minZ (x .e) (y .e)) x +ℤ units β (minZ (x .e) (y .e)) y;
-    e = minZ (x .e) (y .e) }
+  m = units β (minZ (x .e) (y .e)) x +ℤ units β (minZ (x .e) (y .e)) y;
+  e = minZ (x .e) (y .e);
+}
 
 -- how far x and y lie apart, in units of β^k
 abbrev pub distance : ℕ → ℤ → Exact → Exact → ℕ

@@ -4,3 +4,4 @@ pub mod Rounding
 pub mod Nearest
 pub mod Refusals
 pub mod Operations
+pub mod Errors

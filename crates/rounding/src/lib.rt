@@ -18,6 +18,10 @@ pub enum Refusal {
     NoFigure,
     // the rounded result's exponent is outside -2000..2000
     ResultRange,
+    // an operand of a method is no figure of the kind
+    OperandNoFigure,
+    // the exponent of a method's operand is outside -200..200
+    OperandRange,
 }
 
 impl Refusal {
@@ -28,6 +32,8 @@ impl Refusal {
         match self {
             Refusal::NoFigure => 11,
             Refusal::ResultRange => 12,
+            Refusal::OperandNoFigure => 21,
+            Refusal::OperandRange => 22,
         }
     }
 }

@@ -18,11 +18,19 @@ pub *ℤ-assoc : (a b c : ℤ) → (a *ℤ b) *ℤ c ≡ a *ℤ (b *ℤ c)
 pub *ℤ-+ℤ : (a b c : ℤ) → a *ℤ (b +ℤ c) ≡ a *ℤ b +ℤ a *ℤ c
 *ℤ-+ℤ a b c =
     let rise : up a * (up (b +ℤ c) + (down b + down c)) ≡ up a * (up b + up c + down (b +ℤ c)) =
-          ap (λ (n : ℕ). up a * n) (omega (arith, sum-is b c)) in
+    ap (λ (n : ℕ). up a * n) (omega (arith, sum-is b c)) in
     let fall : down a * (up (b +ℤ c) + (down b + down c)) ≡ down a * (up b + up c + down (b +ℤ c)) =
-          ap (λ (n : ℕ). down a * n) (omega (arith, sum-is b c)) in
-    same-in _ _ (simp (up-product, down-product) (omega (arith,
-      sum-is (a *ℤ b) (a *ℤ c), up-product a b, up-product a c, down-product a b, down-product a c, rise, fall)))
+    ap (λ (n : ℕ). down a * n) (omega (arith, sum-is b c)) in
+    same-in _ _ (simp (up-product, down-product) (omega (
+      arith,
+      sum-is (a *ℤ b) (a *ℤ c),
+      up-product a b,
+      up-product a c,
+      down-product a b,
+      down-product a c,
+      rise,
+      fall,
+    )))
 
 pub +ℤ-*ℤ : (a b c : ℤ) → (a +ℤ b) *ℤ c ≡ a *ℤ c +ℤ b *ℤ c
 +ℤ-*ℤ a b c = *ℤ-comm (a +ℤ b) c ∙ *ℤ-+ℤ c a b ∙ ap₂ (λ (x y : ℤ). x +ℤ y) (*ℤ-comm c a) (*ℤ-comm c b)

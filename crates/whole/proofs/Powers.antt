@@ -16,7 +16,8 @@ power-le β i j two h = let some : 0 < β = omega arith in pow-le-pow-right some
 pub power-order : (β i j : ℕ) → 2 ≤ β → β ^ i < β ^ j → i < j
 power-order β i j two h = elim (cases-lt i j) [
   | inl l ↦ l
-  | inr l ↦ absurd (omega (arith, power-le β j i two l)) ]
+  | inr l ↦ absurd (omega (arith, power-le β j i two l))
+]
 
 -- a power below 2^n has an exponent below n
 pub power-below : (β k n : ℕ) → 2 ≤ β → β ^ k < 2 ^ n → k < n

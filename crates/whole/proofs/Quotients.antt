@@ -9,12 +9,14 @@ use Rattle.std.proofs.shelf.Tests.{cases-lt}
 pub cancel-lt : (a b c : ℕ) → a * c < b * c → a < b
 cancel-lt a b c h = elim (cases-lt a b) [
   | inl l ↦ l
-  | inr l ↦ absurd (omega (arith, mul-le-mul-right c l)) ]
+  | inr l ↦ absurd (omega (arith, mul-le-mul-right c l))
+]
 
 pub cancel-le : (a b c : ℕ) → 0 < c → a * c ≤ b * c → a ≤ b
 cancel-le a b c some h = elim (cases-lt b a) [
   | inr l ↦ l
-  | inl l ↦ absurd (let m : (b + 1) * c ≤ a * c = mul-le-mul-right c (omega arith) in omega arith) ]
+  | inl l ↦ absurd (let m : (b + 1) * c ≤ a * c = mul-le-mul-right c (omega arith) in omega arith)
+]
 
 pub cancel-eq : (a b c : ℕ) → 0 < c → a * c ≡ b * c → a ≡ b
 cancel-eq a b c some e =
@@ -32,4 +34,5 @@ same-quotient V d w e v h a b =
     not-past : (d w e v : ℕ) → d * V + w ≡ e * V + v → v < V → d ≤ e
     not-past d w e v h b = elim (cases-lt e d) [
       | inr l ↦ l
-      | inl l ↦ absurd (let m : (e + 1) * V ≤ d * V = mul-le-mul-right V (omega arith) in omega arith) ]
+      | inl l ↦ absurd (let m : (e + 1) * V ≤ d * V = mul-le-mul-right V (omega arith) in omega arith)
+    ]

@@ -1,0 +1,3 @@
+pub mod Fours
+pub mod Kahan
+pub mod Symmetric

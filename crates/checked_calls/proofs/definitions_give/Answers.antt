@@ -1,0 +1,5 @@
+use Rattle.checked_calls.proofs.Computed.{examples-hold}
+use Rattle.checked_calls.proofs.definitions_give.Needs as need
+
+pub returns : need.returns
+returns c = examples-hold

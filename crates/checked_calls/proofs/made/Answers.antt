@@ -1,0 +1,5 @@
+use mathlib.Core.Path.{refl, _∙_}
+use Rattle.checked_calls.proofs.made.Needs as need
+
+pub returns : need.returns
+returns c = λ says gives. record { by = refl; call = refl; says = c .answer-of .ensures ∙ gives }

@@ -1,0 +1,7 @@
+mod Lengths
+mod Truncations
+mod Rounds
+mod Rises
+mod Joins
+mod Alignments
+mod Signs
