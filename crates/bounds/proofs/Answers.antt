@@ -1,7 +1,7 @@
 -- What is promised of the methods' answers to an accepted four: their range, and their distance from ab + cd.
-use mathlib.Core.Path.{_≡_, refl, sym, ap, ap₂, _∙_, subst}
+use mathlib.Core.Path.{_≡_, sym, ap, ap₂, _∙_, subst}
 use mathlib.Core.Bool.{true}
-use mathlib.Core.Logic.{_⊎_, inl, inr}
+use mathlib.Core.Logic.{inl, inr}
 use Prim.Native.Nat.{ℕ, suc, _+_, _*_, _-_, _^_, _≤_, _<_}
 use native.Mathlib.Nat.{mul-le-mul, mul-le-mul-left, mul-le-mul-right, pow-suc}
 use native.Mathlib.Omega.{arith}
@@ -28,9 +28,9 @@ use Rattle.bounds.specs.Kahan.{roundedProduct, productError, kahan}
 use Rattle.bounds.specs.Symmetric.{symmetric}
 use Rattle.bounds.proofs.Laws.{Laws}
 use Rattle.bounds.proofs.Products.{Term}
-use Rattle.bounds.proofs.Sums.{kahanWhole, symmetricWhole, kahan-close, kahan-placed, symmetric-close, symmetric-swap}
+use Rattle.bounds.proofs.Sums.{kahanWhole, symmetricWhole, kahan-close, kahan-placed, symmetric-close}
 use Rattle.bounds.proofs.Whole.{nearZ, near-laws}
-use Rattle.bounds.proofs.Ranges.{Lies, lies-near}
+use Rattle.bounds.proofs.Ranges.{lies-near}
 use Rattle.bounds.proofs.Operands.{normal-of, Four, four}
 use Rattle.bounds.proofs.Chains.{lies-figure, kahan-lies, symmetric-lies}
 use Rattle.bounds.proofs.Counts.{ground, product-term, sum-units, kahan-count, symmetric-count}
@@ -81,7 +81,8 @@ module _ (β p : ℕ) (kind : IsKind β p) (a b c d : Figure) (accepted : Accept
       (kahan-lies β p kind a b c d accepted)
 
   pub symmetric-figure : isFigure β p (symmetric β p a b c d) ≡ true
-  symmetric-figure = lies-figure β p kind 4 (symmetric β p a b c d) (omega arith) (symmetric-lies β p kind a b c d accepted)
+  symmetric-figure = lies-figure β p kind 4 (symmetric β p a b c d) (omega arith)
+      (symmetric-lies β p kind a b c d accepted)
 
   pub symmetric-range : natAbs (symmetric β p a b c d .q) ≤ 500
   symmetric-range = lies-near β p two (kind .1) (few-digits β p kind) 4 (symmetric β p a b c d) (omega arith)
@@ -89,7 +90,8 @@ module _ (β p : ℕ) (kind : IsKind β p) (a b c d : Figure) (accepted : Accept
 
   -- an answer that counts as a whole-number answer within 1/B is within 1/B
   relative : (r : Figure) (whole : (ℤ → ℤ) → ℤ → ℤ → ℤ)
-      → ((k : ℤ) → k ≤ℤ negℤ (pos 500) → units β k (value r) ≡ whole (nearZ β p) (units β k (product a b)) (units β k (product c d)))
+      → ((k : ℤ) → k ≤ℤ negℤ (pos 500) → units β k (value r)
+      ≡ whole (nearZ β p) (units β k (product a b)) (units β k (product c d)))
       → ((k : ℤ) → let X = units β k (product a b) in let Y = units β k (product c d) in
       β ^ (p - 1) * natAbs (whole (nearZ β p) X Y -ℤ (X +ℤ Y)) ≤ natAbs (X +ℤ Y))
       → Within β 1 (β ^ (p - 1)) (value r) (exactSum β a b c d)
@@ -120,8 +122,8 @@ module _ (β p : ℕ) (kind : IsKind β p) (a b c d : Figure) (accepted : Accept
   -- the limit of every allowance is above 1/B
   pub symmetric-limit : Within β (limitNum (β ^ (p - 1))) (limitDen (β ^ (p - 1)))
       (value (symmetric β p a b c d)) (exactSum β a b c d)
-  symmetric-limit k kr kx = weaken (β ^ (p - 1)) (distance β k (value (symmetric β p a b c d)) x) (natAbs (units β k x))
-      (symmetric-within k kr kx)
+  symmetric-limit k kr kx = weaken (β ^ (p - 1)) (distance β k (value (symmetric β p a b c d)) x)
+      (natAbs (units β k x)) (symmetric-within k kr kx)
     where
       weaken : (B e n : ℕ) → B * e ≤ 1 * n → 4 * (B * B * B) * e ≤ (4 * (B * B) + 7 * B + 3) * n
       weaken B e n h = omega (arith, mul-le-mul-left (4 * (B * B)) h)
@@ -134,7 +136,8 @@ module _ (β p : ℕ) (kind : IsKind β p) (a b c d : Figure) (accepted : Accept
       let v : ℕ = natAbs (ulp β p x .e -ℤ l) in
       let one : natAbs (units β l (ulp β p x)) ≡ β ^ v =
       ap (λ (m : ℤ). natAbs (m *ℤ pos (β ^ v))) (last .power full) ∙ units-one β l (ulp β p x .e) in
-      let sum : units β l x ≡ units β l (product a b) +ℤ units β l (product c d) = sum-units β p kind l fine a b c d accepted in
+      let sum : units β l x ≡ units β l (product a b) +ℤ units β l (product c d) =
+      sum-units β p kind l fine a b c d accepted in
       let few : natAbs (units β l x) < β * β ^ (p - 1) * β ^ v =
       subst (λ (V : ℕ). natAbs (units β l x) < β * β ^ (p - 1) * V) one
       (subst (λ (P : ℕ). natAbs (units β l x) < P * natAbs (units β l (ulp β p x)))

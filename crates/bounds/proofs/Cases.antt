@@ -1,6 +1,6 @@
--- The last steps that both methods share, on natural numbers. P is the sum that the third rounding is given, V its unit
--- and r its rounding; x is the exact answer, y the sum that the last rounding is given, s the answer; t bounds the error
--- that was made besides r. All signs are turned so that P > 0.
+-- The last steps that both methods share, on natural numbers. P is the sum that the third rounding is given, V its
+-- unit and r its rounding; x is the exact answer, y the sum that the last rounding is given, s the answer; t bounds
+-- the error that was made besides r. All signs are turned so that P > 0.
 use mathlib.Core.Path.{_≡_, ap}
 use mathlib.Core.Logic.{_⊎_, inl, inr}
 use Prim.Native.Nat.{ℕ, _+_, _*_, _≤_, _<_}

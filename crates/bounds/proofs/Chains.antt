@@ -1,8 +1,8 @@
 -- Of an accepted four no operation of either method refuses, and every step lies in a known range.
-use mathlib.Core.Path.{_≡_, refl, sym, ap, _∙_, subst}
+use mathlib.Core.Path.{_≡_, sym, ap, _∙_, subst}
 use mathlib.Core.Bool.{Bool, true, cond}
 use mathlib.Core.Logic.{inl, inr}
-use Prim.Native.Nat.{ℕ, suc, _+_, _*_, _-_, _^_, _≤_, _<_}
+use Prim.Native.Nat.{ℕ, _+_, _*_, _-_, _^_, _≤_, _<_}
 use native.Mathlib.Omega.{arith}
 use lib.Dec.{ltb}
 use lib.IntN.{ℤ, pos, _+ℤ_, natAbs}
@@ -13,8 +13,7 @@ use Rattle.std.specs.declared.result.Result.{Result}
 use Rattle.std.specs.declared.result.Result.the-variants.{Ok}
 use Rattle.whole.proofs.Powers.{power-pos}
 use Rattle.rounding.specs.declared.Figure.{Figure}
-use Rattle.rounding.specs.Exact.{value, product, plus}
-use Rattle.rounding.specs.Rounding.{rounded}
+use Rattle.rounding.specs.Exact.{value, product}
 use Rattle.rounding.specs.Operations.{isFigure, multiplied, added, fusedSum}
 use Rattle.figures.specs.Figures.{opposite, flipped}
 use Rattle.kinds.specs.Kinds.{IsKind}
@@ -22,8 +21,8 @@ use Rattle.kinds.proofs.Sizes.{radix-two, few-digits}
 use Rattle.bounds.specs.Fours.{Accepted, after}
 use Rattle.bounds.specs.Kahan.{roundedProduct, productError, fusedFirst, kahan, kahanSteps}
 use Rattle.bounds.specs.Symmetric.{productsSum, errorsSum, symmetric, symmetricSteps}
-use Rattle.bounds.proofs.Ranges.{Lies, Spans, lies-small, lies-near, lies-spans, lies-opposite, spans-later, product-spans}
-use Rattle.bounds.proofs.Ranges.{rounded-lies, sum-lies}
+use Rattle.bounds.proofs.Ranges.{Lies, Spans, lies-small, lies-near, lies-spans, lies-opposite}
+use Rattle.bounds.proofs.Ranges.{spans-later, product-spans, rounded-lies, sum-lies}
 use Rattle.bounds.proofs.Operands.{normal-of, figure-of, Operand, Four, four, multiplied-ok, added-ok, fused-ok}
 
 module _ (β p : ℕ) (kind : IsKind β p) where
@@ -57,7 +56,8 @@ module _ (β p : ℕ) (kind : IsKind β p) where
     ]
 
     pub product-in : Spans β 0 (product c d)
-    product-in = product-spans β p two some few c d (size c (c-in .figure)) (size d (d-in .figure)) (c-in .near) (d-in .near)
+    product-in = product-spans β p two some few c d (size c (c-in .figure)) (size d (d-in .figure))
+        (c-in .near) (d-in .near)
 
     pub w-lies : Lies β p 1 (roundedProduct β p c d)
     w-lies = rounded-lies β p two some few 0 (product c d) (product-in .m) (product-in .small) (product-in .low)
@@ -119,8 +119,8 @@ module _ (β p : ℕ) (kind : IsKind β p) where
     kahan-steps =
         ap (λ (r : Result Figure ℕ). after r (λ w. after (fusedSum β p c d (flipped w))
         (λ e. after (fusedSum β p a b w) (λ f. added β p f e)))) (w-ok c d (all .c-in) (all .d-in))
-        ∙ ap (λ (r : Result Figure ℕ). after r (λ e. after (fusedSum β p a b (roundedProduct β p c d)) (λ f. added β p f e)))
-        (e-ok c d (all .c-in) (all .d-in))
+        ∙ ap (λ (r : Result Figure ℕ). after r (λ e. after (fusedSum β p a b (roundedProduct β p c d))
+        (λ f. added β p f e))) (e-ok c d (all .c-in) (all .d-in))
         ∙ ap (λ (r : Result Figure ℕ). after r (λ f. added β p f (productError β p c d)))
         (fused-ok β p a b (roundedProduct β p c d) (all .a-in .figure) (all .b-in .figure)
         (lies-figure 1 _ (omega arith) p2) (near 2 _ (omega arith) f-lies))
@@ -166,8 +166,8 @@ module _ (β p : ℕ) (kind : IsKind β p) where
         ∙ ap (λ (r : Result Figure ℕ). after r (λ s. after (fusedSum β p c d (flipped y))
         (λ t. after (added β p x y) (λ r. after (added β p s t) (λ e. added β p r e)))))
         (e-ok a b (all .a-in) (all .b-in))
-        ∙ ap (λ (r : Result Figure ℕ). after r (λ t. after (added β p x y) (λ r. after (added β p s t) (λ e. added β p r e))))
-        (e-ok c d (all .c-in) (all .d-in))
+        ∙ ap (λ (r : Result Figure ℕ). after r (λ t. after (added β p x y)
+        (λ r. after (added β p s t) (λ e. added β p r e)))) (e-ok c d (all .c-in) (all .d-in))
         ∙ ap (λ (r : Result Figure ℕ). after r (λ r. after (added β p s t) (λ e. added β p r e)))
         (added-ok β p x y (lies-figure 1 _ (omega arith) p1) (lies-figure 1 _ (omega arith) p2)
         (near 2 _ (omega arith) r-lies))

@@ -1,6 +1,6 @@
 -- The methods' steps, counted in fine units: they are the methods on whole numbers.
-use mathlib.Core.Path.{_≡_, refl, sym, ap, ap₂, _∙_, subst}
-use mathlib.Core.Logic.{_⊎_, inl, inr}
+use mathlib.Core.Path.{_≡_, sym, ap, ap₂, _∙_, subst}
+use mathlib.Core.Logic.{inl, inr}
 use Prim.Native.Nat.{ℕ, suc, _+_, _*_, _-_, _^_, _≤_, _<_, _∣_}
 use native.Mathlib.Nat.{mul-le-mul, mul-le-mul-right, dvd-mul-left}
 use native.Mathlib.Omega.{arith}
@@ -10,7 +10,7 @@ use borrow.Author.Differences.{ints}
 use Rattle.std.specs.Numbers.{minZ}
 use Rattle.std.proofs.shelf.Signed.{clamps}
 use Rattle.whole.proofs.Integers.{+ℤ-*ℤ, neg-left, natAbs-mul}
-use Rattle.whole.proofs.Powers.{power-pos, power-split}
+use Rattle.whole.proofs.Powers.{power-split}
 use Rattle.rounding.specs.declared.Figure.{Figure}
 use Rattle.rounding.specs.Exact.{Exact, value, product, units, plus}
 use Rattle.rounding.specs.Rounding.{rounded}
@@ -26,7 +26,6 @@ use Rattle.bounds.proofs.Laws.{Ground}
 use Rattle.bounds.proofs.Products.{Term}
 use Rattle.bounds.proofs.Sums.{kahanWhole, symmetricWhole}
 use Rattle.bounds.proofs.Whole.{nearZ, ground-of, units-rounded}
-use Rattle.bounds.proofs.Ranges.{Lies}
 use Rattle.bounds.proofs.Operands.{Operand, Four, four}
 use Rattle.bounds.proofs.Chains.{w-lies, e-lies, f-lies, r-lies, e-sum}
 
@@ -65,9 +64,11 @@ module _ (β p : ℕ) (kind : IsKind β p) where
   pub product-term : (a b : Figure) (k : ℤ) → Normal β p a → Normal β p b
       → Term β (β ^ (p - 1)) ground (units β k (product a b)) (natAbs (product a b .e -ℤ k))
   product-term a b k (inl z) nb = inl (ap (λ (s : ℤ). s *ℤ b .s *ℤ pos (β ^ natAbs (product a b .e -ℤ k))) (z .0)
-      ∙ ap (λ (s : ℤ). s *ℤ pos (β ^ natAbs (product a b .e -ℤ k))) (zero-*ℤ (b .s)) ∙ zero-*ℤ (pos (β ^ natAbs (product a b .e -ℤ k))))
+      ∙ ap (λ (s : ℤ). s *ℤ pos (β ^ natAbs (product a b .e -ℤ k))) (zero-*ℤ (b .s))
+      ∙ zero-*ℤ (pos (β ^ natAbs (product a b .e -ℤ k))))
   product-term a b k (inr na) (inl z) = inl (ap (λ (s : ℤ). a .s *ℤ s *ℤ pos (β ^ natAbs (product a b .e -ℤ k))) (z .0)
-      ∙ ap (λ (s : ℤ). s *ℤ pos (β ^ natAbs (product a b .e -ℤ k))) (*ℤ-zero (a .s)) ∙ zero-*ℤ (pos (β ^ natAbs (product a b .e -ℤ k))))
+      ∙ ap (λ (s : ℤ). s *ℤ pos (β ^ natAbs (product a b .e -ℤ k))) (*ℤ-zero (a .s))
+      ∙ zero-*ℤ (pos (β ^ natAbs (product a b .e -ℤ k))))
   product-term a b k (inr na) (inr nb) = inr (record {
     grain = subst (λ (n : ℕ). E ∣ n) (sym size) (dvd-mul-left E (natAbs (a .s) * natAbs (b .s)));
     most = subst (λ (n : ℕ). n ≤ ground .c * ground .c * E) (sym size)
@@ -88,9 +89,6 @@ module _ (β p : ℕ) (kind : IsKind β p) where
 
   -- units finer than every step needs
   module _ (k : ℤ) (fine : k ≤ℤ negℤ (pos 500)) where
-    abbrev rn : ℤ → ℤ
-    rn = nearZ β p
-
     low : (n : ℕ) (e : ℤ) → n ≤ 3 → negℤ (pos (400 + 23 * n)) ≤ℤ e → k ≤ℤ e
     low n e h g = omega (arith, ints)
 
@@ -115,9 +113,6 @@ module _ (β p : ℕ) (kind : IsKind β p) where
 
     -- a product, its rounding and its error
     module _ (c d : Figure) (c-in : Operand β p c) (d-in : Operand β p d) where
-      abbrev Y : ℤ
-      Y = units β k (product c d)
-
       product-low : negℤ (pos (400 + 23 * 0)) ≤ℤ product c d .e
       product-low = go (c .q) (d .q) (c-in .near) (d-in .near)
         where
@@ -161,14 +156,16 @@ module _ (β p : ℕ) (kind : IsKind β p) where
           ≡ nearZ β p (nearZ β p (units β k (product a b)) +ℤ nearZ β p (units β k (product c d)))
       r-count = sum-count 1 (value (roundedProduct β p a b)) (value (roundedProduct β p c d)) (omega arith)
           (w-lies β p kind a b (all .a-in) (all .b-in) .low) (w-lies β p kind c d (all .c-in) (all .d-in) .low)
-          ∙ ap₂ (λ (x y : ℤ). nearZ β p (x +ℤ y)) (w-count a b (all .a-in) (all .b-in)) (w-count c d (all .c-in) (all .d-in))
+          ∙ ap₂ (λ (x y : ℤ). nearZ β p (x +ℤ y)) (w-count a b (all .a-in) (all .b-in))
+          (w-count c d (all .c-in) (all .d-in))
 
       errors-count : units β k (value (errorsSum β p a b c d))
           ≡ nearZ β p (nearZ β p (units β k (product a b) -ℤ nearZ β p (units β k (product a b)))
           +ℤ nearZ β p (units β k (product c d) -ℤ nearZ β p (units β k (product c d))))
       errors-count = sum-count 2 (value (productError β p a b)) (value (productError β p c d)) (omega arith)
           (e-lies β p kind a b (all .a-in) (all .b-in) .low) (e-lies β p kind c d (all .c-in) (all .d-in) .low)
-          ∙ ap₂ (λ (x y : ℤ). nearZ β p (x +ℤ y)) (e-count a b (all .a-in) (all .b-in)) (e-count c d (all .c-in) (all .d-in))
+          ∙ ap₂ (λ (x y : ℤ). nearZ β p (x +ℤ y)) (e-count a b (all .a-in) (all .b-in))
+          (e-count c d (all .c-in) (all .d-in))
 
       pub symmetric-count : units β k (value (symmetric β p a b c d))
           ≡ symmetricWhole (nearZ β p) (units β k (product a b)) (units β k (product c d))

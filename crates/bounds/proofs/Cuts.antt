@@ -1,8 +1,8 @@
--- Rounding on the natural numbers, and its laws: t below β B is kept; any other is cut at a unit V = β^(k+1) that leaves
--- B ≤ n < β B units, and is n or n + 1 of them, whichever is nearer, in a tie the even one.
+-- Rounding on the natural numbers, and its laws: t below β B is kept; any other is cut at a unit V = β^(k+1)
+-- that leaves B ≤ n < β B units, and is n or n + 1 of them, whichever is nearer, in a tie the even one.
 use mathlib.Core.Path.{_≡_, refl, sym, ap, ap₂, _∙_, subst}
 use mathlib.Core.Logic.{_⊎_, inl, inr}
-use Prim.Native.Nat.{ℕ, zero, suc, _+_, _*_, _-_, _%_, _^_, _≤_, _<_, _∣_}
+use Prim.Native.Nat.{ℕ, zero, suc, _+_, _*_, _%_, _^_, _≤_, _<_, _∣_}
 use native.Mathlib.Nat.{mul-le-mul-right, mul-le-mul-left, mul-le-mul, mul-comm, pow-suc, pow-zero}
 use native.Mathlib.Nat.{dvd-trans, dvd-mul-left, dvd-zero, one-dvd, dvd-add-iff-right, le-of-dvd}
 use native.Mathlib.Omega.{arith}

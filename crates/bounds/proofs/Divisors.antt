@@ -1,7 +1,7 @@
 -- Multiples of a power among the whole numbers, signs apart.
 use mathlib.Core.Path.{_≡_, refl, sym, subst}
 use mathlib.Core.Logic.{_⊎_, inl, inr}
-use Prim.Native.Nat.{ℕ, _+_, _-_, _*_, _^_, _≤_, _∣_}
+use Prim.Native.Nat.{ℕ, _+_, _-_, _^_, _≤_, _∣_}
 use native.Mathlib.Nat.{dvd-add, dvd-sub, dvd-mul-left}
 use native.Mathlib.Omega.{arith}
 use lib.IntN.{ℤ, pos, negsuc, _+ℤ_, natAbs}

@@ -7,14 +7,13 @@ use native.Mathlib.Omega.{arith}
 use lib.IntN.{ℤ, pos, negsuc, _+ℤ_, _-ℤ_, negℤ, natAbs}
 use borrow.Author.Differences.{ints}
 use Rattle.std.proofs.shelf.Tests.{cases-lt}
-use Rattle.whole.proofs.Distances.{gap}
 use Rattle.whole.proofs.Integers.{natAbs-neg}
 use Rattle.whole.proofs.Powers.{power-pos, power-le, power-parts}
 use Rattle.bounds.proofs.Divisors.{divides-sum, divides-power}
 use Rattle.bounds.proofs.Laws.{Ground, Coarse, Laws}
 use Rattle.bounds.proofs.Cases.{Shape, from, under, below-exact, fine-grain}
-use Rattle.bounds.proofs.Steps.{unit-is, kept-sign, last-of, key, Close, near-close, no-error, exact-both, flip-close}
-use Rattle.bounds.proofs.Steps.{flip-coarse, r-half, r-low, Shaped, shaped}
+use Rattle.bounds.proofs.Steps.{unit-is, last-of, Close, near-close, no-error, exact-both, flip-close}
+use Rattle.bounds.proofs.Steps.{flip-coarse, r-half, Shaped, shaped}
 use Rattle.bounds.proofs.Products.{Parts}
 use Rattle.bounds.proofs.Grain.{top-power}
 
@@ -78,7 +77,12 @@ module _ (β B : ℕ) (ground : Ground β B) (rn : ℤ → ℤ) (law : Laws β B
 
       small : (co : Coarse β B P (rn P)) → w .k ≤ q + suc (co .k) → Small (co .k) E
       small co h = record {
-        half = omega (arith, w .error-half, K-power (suc (co .k)), power-le β (w .k) (q + suc (co .k)) (ground .two) h);
+        half = omega (
+          arith,
+          w .error-half,
+          K-power (suc (co .k)),
+          power-le β (w .k) (q + suc (co .k)) (ground .two) h,
+        );
         finer = elim (cases-lt (w .k) (q + suc (co .k))) [
           | inl l ↦ inl (omega (
             arith,
@@ -97,14 +101,22 @@ module _ (β B : ℕ) (ground : Ground β B) (rn : ℤ → ℤ) (law : Laws β B
             | inr m ↦ m
             | inl m ↦ absurd (
                 let less : suc q + j < q + suc (co .k) = omega arith in
-                let a : β ^ suc (suc q + j) ≤ β ^ w .k = power-le β (suc (suc q + j)) (w .k) (ground .two) (omega arith) in
+                let a : β ^ suc (suc q + j) ≤ β ^ w .k =
+                power-le β (suc (suc q + j)) (w .k) (ground .two) (omega arith) in
                 let b : β ^ (suc q + j) ≡ β * B * β ^ j = power-parts β (suc q) j (suc q + j) refl
                 ∙ ap (λ (n : ℕ). n * β ^ j) (sym (top-power β B ground rn law)) in
-                let two : 2 * β ^ (suc q + j) ≤ β * β ^ (suc q + j) = mul-le-mul-right (β ^ (suc q + j)) (ground .two) in
-                omega (arith, w .unit-le, unit-is β B ground rn law (suc q + j), power-pos β (suc q + j) (ground .two)))
+                let two : 2 * β ^ (suc q + j) ≤ β * β ^ (suc q + j) =
+                mul-le-mul-right (β ^ (suc q + j)) (ground .two) in
+                omega (
+                  arith,
+                  w .unit-le,
+                  unit-is β B ground rn law (suc q + j),
+                  power-pos β (suc q + j) (ground .two),
+                ))
           ]
 
-      coarse-far : (co : Coarse β B P (rn P)) → q + suc (co .k) < w .k → β * B * β ^ i < natAbs P → Far (co .k) (P +ℤ E)
+      coarse-far : (co : Coarse β B P (rn P)) → q + suc (co .k) < w .k → β * B * β ^ i < natAbs P
+          → Far (co .k) (P +ℤ E)
       coarse-far co far m =
           let k : ℕ = co .k in
           let V : ℕ = β ^ suc k in
@@ -112,7 +124,8 @@ module _ (β B : ℕ) (ground : Ground β B) (rn : ℤ → ℤ) (law : Laws β B
             | inl n ↦ n
             | inr n ↦ absurd (omega (arith, few co i n))
           ] in
-          let gw : β * β ^ i ≤ V = omega (arith, unit-is β B ground rn law i, power-le β (suc i) (suc k) (ground .two) finer) in
+          let gw : β * β ^ i ≤ V =
+          omega (arith, unit-is β B ground rn law i, power-le β (suc i) (suc k) (ground .two) finer) in
           let big : β * (B * V) ≤ β ^ w .k = omega (
             arith,
             unit-is β B ground rn law (q + suc k),
@@ -126,17 +139,20 @@ module _ (β B : ℕ) (ground : Ground β B) (rn : ℤ → ℤ) (law : Laws β B
             ap (λ (n : ℕ). B * (n * V)) (ground .top),
           ) in
           subst (λ (z : ℤ). 2 * (B * (ground .h * β ^ k)) + ground .h * β ^ k ≤ natAbs z) (sym sum)
-          (fine-grain β B (ground .c) V (β ^ i) (natAbs Y) (natAbs X) (natAbs (X +ℤ Y)) (ground .h * β ^ k) (ground .two)
+          (fine-grain β B (ground .c) V (β ^ i) (natAbs Y) (natAbs X) (natAbs (X +ℤ Y))
+          (ground .h * β ^ k) (ground .two)
           (omega (arith, ground .eight)) (ground .top) yb tx (triangle X Y) gw (omega (arith, half-unit k)))
         where
           triangle : (X Y : ℤ) → natAbs Y ≤ natAbs (X +ℤ Y) + natAbs X
           triangle X Y = omega (arith, ints)
 
   -- the sum that the last rounding is given lies within half a unit of P + E
-  pub within-half : (P E : ℤ) (co : Coarse β B P (rn P)) → rn E ≡ E → 2 * natAbs (rn P +ℤ rn E -ℤ (P +ℤ E)) ≤ β ^ suc (co .k)
+  pub within-half : (P E : ℤ) (co : Coarse β B P (rn P)) → rn E ≡ E
+      → 2 * natAbs (rn P +ℤ rn E -ℤ (P +ℤ E)) ≤ β ^ suc (co .k)
   within-half P E co kept = off (rn P) (rn E) (law .half P (suc (co .k)) (omega (arith, co .hi))) kept
     where
-      off : (p e : ℤ) → 2 * natAbs (p -ℤ P) ≤ β ^ suc (co .k) → e ≡ E → 2 * natAbs (p +ℤ e -ℤ (P +ℤ E)) ≤ β ^ suc (co .k)
+      off : (p e : ℤ) → 2 * natAbs (p -ℤ P) ≤ β ^ suc (co .k) → e ≡ E
+          → 2 * natAbs (p +ℤ e -ℤ (P +ℤ E)) ≤ β ^ suc (co .k)
       off p e a b = omega (arith, ints)
 
   far-close : (P E : ℤ) (co : Coarse β B P (rn P)) → rn E ≡ E → Far (co .k) (P +ℤ E) → Close β B ground rn law P E
@@ -150,7 +166,8 @@ module _ (β B : ℕ) (ground : Ground β B) (rn : ℤ → ℤ) (law : Laws β B
   small-close P E co kept small = s .done (elim (cases-lt (s .x) K) [
     | inr b ↦ from B V P r (s .x) (s .y) a 0 sh (omega arith) b
     | inl b ↦ elim (cases-lt (s .y) K) [
-      | inr c ↦ under B V P r (s .x) (s .y) a 0 sh (omega arith) b c (last-of β B ground rn law (co .k) (s .y) .low (below-middle b))
+      | inr c ↦ under B V P r (s .x) (s .y) a 0 sh (omega arith) b c
+          (last-of β B ground rn law (co .k) (s .y) .low (below-middle b))
       | inl c ↦ below-exact B V P r (s .x) (s .y) a 0 sh refl b c (elim (small .finer) [
         | inl m ↦ inr (three-quarters m)
         | inr m ↦ inl (y-kept c m, half-left)

@@ -1,8 +1,8 @@
 -- Kahan's method is within (β + 1)/2 units of the last place of X + Y.
-use mathlib.Core.Path.{_≡_, sym, ap, ap₂, _∙_, subst}
+use mathlib.Core.Path.{_≡_, sym, ap, ap₂, subst}
 use mathlib.Core.Logic.{inl, inr}
 use Prim.Native.Nat.{ℕ, suc, _+_, _*_, _^_, _≤_, _<_}
-use native.Mathlib.Nat.{mul-le-mul-right, mul-le-mul-left, dvd-mul-left}
+use native.Mathlib.Nat.{mul-le-mul-right, mul-le-mul-left}
 use native.Mathlib.Omega.{arith}
 use lib.IntN.{ℤ, pos, negsuc, _+ℤ_, _-ℤ_, negℤ, natAbs}
 use lib.Signed.{_≤ℤ_}
@@ -10,8 +10,8 @@ use borrow.Author.Differences.{ints}
 use Rattle.std.proofs.shelf.Tests.{cases-lt}
 use Rattle.whole.proofs.Powers.{power-le}
 use Rattle.bounds.proofs.Laws.{Ground, Coarse, Laws}
-use Rattle.bounds.proofs.Steps.{unit-is, edge, not-under}
-use Rattle.bounds.proofs.Kahan.{Small, Far, Situation, half-unit, within-half}
+use Rattle.bounds.proofs.Steps.{unit-is, not-under}
+use Rattle.bounds.proofs.Kahan.{Situation, half-unit, within-half}
 
 module _ (β B : ℕ) (ground : Ground β B) (rn : ℤ → ℤ) (law : Laws β B rn) where
   -- the last rounding, of a y within half of β^(v+1) of x, where x has its last place at β^v or below
@@ -32,15 +32,18 @@ module _ (β B : ℕ) (ground : Ground β B) (rn : ℤ → ℤ) (law : Laws β B
       → 2 * natAbs (rn y -ℤ x) ≤ β ^ suc v + β ^ v
   last (pos y) v x lx ly = last-pos y v x lx ly
   last (negsuc y) v x lx ly =
-      back (rn (pos (suc y))) (rn (negsuc y)) x (law .odd (negsuc y)) (last-pos (suc y) v (negℤ x) (turned x lx) (turned′ y x ly))
+      back (rn (pos (suc y))) (rn (negsuc y)) x (law .odd (negsuc y))
+      (last-pos (suc y) v (negℤ x) (turned x lx) (turned′ y x ly))
     where
       turned : (x : ℤ) → natAbs x < β * B * β ^ v → natAbs (negℤ x) < β * B * β ^ v
       turned x h = omega (arith, ints)
 
-      turned′ : (y : ℕ) (x : ℤ) → 2 * natAbs (negsuc y -ℤ x) ≤ β ^ suc v → 2 * natAbs (pos (suc y) -ℤ negℤ x) ≤ β ^ suc v
+      turned′ : (y : ℕ) (x : ℤ) → 2 * natAbs (negsuc y -ℤ x) ≤ β ^ suc v
+          → 2 * natAbs (pos (suc y) -ℤ negℤ x) ≤ β ^ suc v
       turned′ y x h = omega (arith, ints)
 
-      back : (a b x : ℤ) → a ≡ negℤ b → 2 * natAbs (a -ℤ negℤ x) ≤ β ^ suc v + β ^ v → 2 * natAbs (b -ℤ x) ≤ β ^ suc v + β ^ v
+      back : (a b x : ℤ) → a ≡ negℤ b → 2 * natAbs (a -ℤ negℤ x) ≤ β ^ suc v + β ^ v
+          → 2 * natAbs (b -ℤ x) ≤ β ^ suc v + β ^ v
       back a b x e h = omega (arith, ints)
 
   -- the answer to P and E lies within (β + 1)/2 units β^v of P + E, where P + E has at most p digits in these units
@@ -58,7 +61,8 @@ module _ (β B : ℕ) (ground : Ground β B) (rn : ℤ → ℤ) (law : Laws β B
 
   -- the unit of P is at most β units of the last place
   coarse : (P E : ℤ) (co : Coarse β B P (rn P)) → rn E ≡ E → B * β ^ suc (co .k) ≤ 2 * natAbs (P +ℤ E) → Placed P E
-  coarse P E co kept big v l = last (rn P +ℤ rn E) v (P +ℤ E) l (omega (arith, within-half β B ground rn law P E co kept, unit))
+  coarse P E co kept big v l = last (rn P +ℤ rn E) v (P +ℤ E) l
+      (omega (arith, within-half β B ground rn law P E co kept, unit))
     where
       clash : (V V1 V2 U x : ℕ) → V1 ≡ β * V → V2 ≡ β * V1 → V2 ≤ U → B * U ≤ 2 * x → x < β * B * V → ⊥
       clash V V1 V2 U x e f g m n =

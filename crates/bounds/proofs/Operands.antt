@@ -1,7 +1,7 @@
 -- What an accepted four consists of, and when an operation on figures does not refuse.
-use mathlib.Core.Path.{_≡_, refl, sym, ap, _∙_, subst}
+use mathlib.Core.Path.{_≡_, refl, ap, _∙_}
 use mathlib.Core.Bool.{Bool, true, false, cond, _&&_}
-use mathlib.Core.Logic.{_⊎_, inl, inr}
+use mathlib.Core.Logic.{inl, inr}
 use Prim.Native.Nat.{ℕ, zero, suc, _-_, _^_, _≤_, _<_}
 use native.Mathlib.Omega.{arith}
 use lib.Dec.{leb, ltb, eqb}
@@ -10,8 +10,7 @@ use borrow.Author.Differences.{ints}
 use Rattle.std.proofs.shelf.Ways.{tells}
 use Rattle.std.specs.declared.option.Option.{Option}
 use Rattle.std.specs.declared.option.Option.the-variants.{Some, None}
-use Rattle.std.specs.declared.result.Result.{Result}
-use Rattle.std.specs.declared.result.Result.the-variants.{Ok, Err}
+use Rattle.std.specs.declared.result.Result.the-variants.{Ok}
 use Rattle.rounding.specs.declared.Figure.{Figure}
 use Rattle.rounding.specs.declared.Refusal.the-variants.{NoFigure, ResultRange}
 use Rattle.rounding.specs.Exact.{Exact, value, product, plus}
@@ -19,7 +18,7 @@ use Rattle.rounding.specs.Rounding.{rounded}
 use Rattle.rounding.specs.Nearest.{Normal}
 use Rattle.rounding.specs.Refusals.{number, first, unless}
 use Rattle.rounding.specs.Operations.{isFigure, reaches, noFigure, outside, answered, multiplied, added, fusedSum}
-use Rattle.bounds.specs.Fours.{fault, faults, Accepted}
+use Rattle.bounds.specs.Fours.{fault, Accepted}
 
 -- the figure test, on sizes
 abbrev Test : ℕ → ℕ → ℕ → ℕ → Bool
@@ -78,7 +77,12 @@ four β p a b c d h =
     let x = none-first (fault β p a) (first (fault β p b) (first (fault β p c) (fault β p d))) h in
     let y = none-first (fault β p b) (first (fault β p c) (fault β p d)) (x .1) in
     let z = none-first (fault β p c) (fault β p d) (y .1) in
-    record { a-in = operand β p a (x .0); b-in = operand β p b (y .0); c-in = operand β p c (z .0); d-in = operand β p d (z .1) }
+    record {
+      a-in = operand β p a (x .0);
+      b-in = operand β p b (y .0);
+      c-in = operand β p c (z .0);
+      d-in = operand β p d (z .1);
+    }
 
 -- operations that do not refuse
 answered-ok : (β p : ℕ) (o : Option ℕ) (x : Exact) → o ≡ None → natAbs (rounded β p x .q) ≤ 500
@@ -100,11 +104,13 @@ pub multiplied-ok : (β p : ℕ) (x y : Figure) → isFigure β p x ≡ true →
 multiplied-ok β p x y a b t = answered-ok β p _ (product x y) (no-faults β p x y a b) t
 
 pub added-ok : (β p : ℕ) (x y : Figure) → isFigure β p x ≡ true → isFigure β p y ≡ true
-    → natAbs (rounded β p (plus β (value x) (value y)) .q) ≤ 500 → added β p x y ≡ Ok (rounded β p (plus β (value x) (value y)))
+    → natAbs (rounded β p (plus β (value x) (value y)) .q) ≤ 500
+    → added β p x y ≡ Ok (rounded β p (plus β (value x) (value y)))
 added-ok β p x y a b t = answered-ok β p _ (plus β (value x) (value y)) (no-faults β p x y a b) t
 
 pub fused-ok : (β p : ℕ) (x y z : Figure) → isFigure β p x ≡ true → isFigure β p y ≡ true → isFigure β p z ≡ true
     → natAbs (rounded β p (plus β (product x y) (value z)) .q) ≤ 500
     → fusedSum β p x y z ≡ Ok (rounded β p (plus β (product x y) (value z)))
 fused-ok β p x y z a b c t = answered-ok β p _ (plus β (product x y) (value z))
-    (ap (λ (o : Option ℕ). first o (first (noFigure β p y) (noFigure β p z))) (no-fault β p x a) ∙ no-faults β p y z b c) t
+    (ap (λ (o : Option ℕ). first o (first (noFigure β p y) (noFigure β p z))) (no-fault β p x a)
+    ∙ no-faults β p y z b c) t

@@ -1,8 +1,8 @@
 -- An accepted four is accepted in any order, and with an operand's sign turned.
-use mathlib.Core.Path.{_≡_, refl, sym, ap, _∙_}
+use mathlib.Core.Path.{_≡_, ap, _∙_}
 use mathlib.Core.Bool.{Bool, true, cond, _&&_}
 use mathlib.Core.Logic.{inl, inr}
-use Prim.Native.Nat.{ℕ, _-_, _^_, _≤_, _<_}
+use Prim.Native.Nat.{ℕ, _-_, _^_, _<_}
 use native.Mathlib.Omega.{arith}
 use lib.Dec.{leb, ltb, eqb}
 use lib.IntN.{natAbs}
@@ -16,7 +16,7 @@ use Rattle.rounding.specs.Operations.{reaches}
 use Rattle.rounding.specs.Refusals.{number, first}
 use Rattle.figures.specs.Figures.{opposite, flipped}
 use Rattle.kinds.specs.Kinds.{IsKind}
-use Rattle.bounds.specs.Fours.{fault, faults, Accepted}
+use Rattle.bounds.specs.Fours.{fault, Accepted}
 use Rattle.bounds.proofs.Operands.{normal-of, none-first, four}
 
 -- the faults of an accepted four

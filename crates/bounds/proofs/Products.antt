@@ -1,7 +1,7 @@
 -- A product of two figures, its rounding, and its error, which is kept whole by a further rounding.
 use mathlib.Core.Path.{_≡_, sym, ap, _∙_, subst}
 use mathlib.Core.Logic.{_⊎_, inl, inr}
-use Prim.Native.Nat.{ℕ, suc, _+_, _*_, _^_, _≤_, _<_, _∣_}
+use Prim.Native.Nat.{ℕ, suc, _+_, _*_, _^_, _≤_, _∣_}
 use native.Mathlib.Nat.{mul-le-mul-right, dvd-trans, dvd-mul-left}
 use native.Mathlib.Omega.{arith}
 use lib.IntN.{ℤ, pos, negsuc, _-ℤ_, negℤ, natAbs}

@@ -1,11 +1,11 @@
 -- Where the exponents lie after some roundings of an accepted four: level n is n roundings past the products.
-use mathlib.Core.Path.{_≡_, refl, sym, ap, _∙_, subst}
+use mathlib.Core.Path.{refl, sym, ap, subst}
 use mathlib.Core.Bool.{Bool}
-use mathlib.Core.Logic.{_⊎_, inl, inr}
+use mathlib.Core.Logic.{inl, inr}
 use Prim.Native.Nat.{ℕ, suc, _+_, _*_, _-_, _^_, _≤_, _<_}
 use native.Mathlib.Nat.{mul-le-mul-right, mul-le-mul-left, mul-lt-mul-of-pos-right, pow-suc}
 use native.Mathlib.Omega.{arith}
-use lib.IntN.{ℤ, pos, _+ℤ_, _-ℤ_, _*ℤ_, negℤ, natAbs}
+use lib.IntN.{ℤ, pos, _+ℤ_, _-ℤ_, negℤ, natAbs}
 use lib.Signed.{_≤ℤ_}
 use borrow.Author.Differences.{ints}
 use Rattle.std.specs.Numbers.{minZ}
@@ -18,10 +18,10 @@ use Rattle.rounding.specs.declared.Figure.{Figure}
 use Rattle.rounding.specs.Exact.{Exact, value, product, units, plus}
 use Rattle.rounding.specs.Rounding.{zeroFigure, negative, rounded, widened}
 use Rattle.rounding.specs.Nearest.{Normal}
-use Rattle.rounding.proofs.Places.{place-lo, raise-few}
+use Rattle.rounding.proofs.Places.{place-lo}
 use Rattle.rounding.proofs.Computed.{rounded-zero, Found, found}
 use Rattle.rounding.proofs.Signs.{signed-size}
-use Rattle.rounding.proofs.Seen.{Plain, Carry, carried-cases}
+use Rattle.rounding.proofs.Seen.{carried-cases}
 use Rattle.figures.specs.Figures.{opposite}
 
 -- x is a multiple of the power at the level's floor, and smaller than that at its ceiling
@@ -57,7 +57,12 @@ module _ (β p : ℕ) (two : 2 ≤ β) (some : 2 ≤ p) (few : p ≤ 24) where
   lies-spans n f l = record { m = p; small = lies-small n f l; low = l .low; high = l .high }
 
   pub spans-later : (n : ℕ) (x : Exact) → Spans β n x → Spans β (suc n) x
-  spans-later n x s = record { m = s .m; small = s .small; low = lower (x .e) (s .low); high = higher (x .e) (s .high) }
+  spans-later n x s = record {
+    m = s .m;
+    small = s .small;
+    low = lower (x .e) (s .low);
+    high = higher (x .e) (s .high);
+  }
     where
       lower : (e : ℤ) → negℤ (pos (400 + 23 * n)) ≤ℤ e → negℤ (pos (400 + 23 * suc n)) ≤ℤ e
       lower e h = omega (arith, ints)
@@ -80,7 +85,8 @@ module _ (β p : ℕ) (two : 2 ≤ β) (some : 2 ≤ p) (few : p ≤ 24) where
       → natAbs (y .q) ≤ 200 → Spans β 0 (product x y)
   product-spans x y sx sy qx qy = record {
     m = p + p;
-    small = rw (natAbs-mul (x .s) (y .s), power-parts β p p (p + p) refl) (below (natAbs (x .s)) (natAbs (y .s)) (β ^ p) sx sy);
+    small = rw (natAbs-mul (x .s) (y .s), power-parts β p p (p + p) refl)
+        (below (natAbs (x .s)) (natAbs (y .s)) (β ^ p) sx sy);
     low = lower (x .q) (y .q) qx qy;
     high = higher (x .q) (y .q) qx qy;
   }
@@ -147,7 +153,8 @@ module _ (β p : ℕ) (two : 2 ≤ β) (some : 2 ≤ p) (few : p ≤ 24) where
               cancel-le (β ^ f .j) (natAbs (x .m)) (β ^ (p - 1)) (power-pos β (p - 1) two) (omega arith) in
               power-order β (f .j) m two (omega (arith, small))
 
-          lower : (e : ℤ) (j : ℕ) → negℤ (pos (400 + 23 * n)) ≤ℤ e → negℤ (pos (400 + 23 * suc n)) ≤ℤ (e -ℤ pos (p - 1) +ℤ pos j)
+          lower : (e : ℤ) (j : ℕ) → negℤ (pos (400 + 23 * n)) ≤ℤ e
+              → negℤ (pos (400 + 23 * suc n)) ≤ℤ (e -ℤ pos (p - 1) +ℤ pos j)
           lower e j h = omega (arith, ints)
 
           lower-next : (e : ℤ) (j : ℕ) → negℤ (pos (400 + 23 * n)) ≤ℤ e
@@ -196,7 +203,8 @@ module _ (β p : ℕ) (two : 2 ≤ β) (some : 2 ≤ p) (few : p ≤ 24) where
           rw (natAbs-mul (z .m) (pos (β ^ i)))
           (omega (arith, a, power-parts β (s .m) i (s .m + i) refl, power-le β (s .m + i) _ two fits))
         where
-          count : (e k : ℤ) (m : ℕ) → (e +ℤ pos m) ≤ℤ pos (448 + 2 * n) → k ≤ℤ e → m + natAbs (e -ℤ k) ≤ natAbs (pos (448 + 2 * n) -ℤ k)
+          count : (e k : ℤ) (m : ℕ) → (e +ℤ pos m) ≤ℤ pos (448 + 2 * n) → k ≤ℤ e
+              → m + natAbs (e -ℤ k) ≤ natAbs (pos (448 + 2 * n) -ℤ k)
           count e k m a b = omega (arith, ints)
 
       sums : (u v : ℤ) (U : ℕ) → natAbs u < U → natAbs v < U → natAbs (u +ℤ v) < U * β

@@ -1,19 +1,17 @@
--- The last two roundings of a method: P is rounded, E is rounded, and their sum is rounded. Where the answer lies within
--- 1/B of P + E, from the laws of rounding alone.
-use mathlib.Core.Path.{_≡_, refl, sym, ap, ap₂, _∙_, subst}
-use mathlib.Core.Logic.{_⊎_, inl, inr}
-use Prim.Native.Nat.{ℕ, zero, suc, _+_, _*_, _-_, _^_, _≤_, _<_, _∣_}
-use native.Mathlib.Nat.{mul-le-mul-right, mul-le-mul-left, dvd-trans, dvd-mul-left, dvd-zero, pow-suc, mul-comm}
+-- The last two roundings of a method: P is rounded, E is rounded, and their sum is rounded. Where the answer lies
+-- within 1/B of P + E, from the laws of rounding alone.
+use mathlib.Core.Path.{_≡_, sym, ap, ap₂, _∙_, subst}
+use Prim.Native.Nat.{ℕ, suc, _+_, _*_, _^_, _≤_, _<_, _∣_}
+use native.Mathlib.Nat.{mul-le-mul-right, dvd-trans, dvd-mul-left, dvd-zero, pow-suc, mul-comm}
 use native.Mathlib.Omega.{arith}
 use lib.IntN.{ℤ, pos, negsuc, _+ℤ_, _-ℤ_, negℤ, natAbs}
 use lib.Signed.{_≤ℤ_, _<ℤ_}
 use borrow.Author.Differences.{ints}
-use Rattle.std.proofs.shelf.Tests.{cases-lt}
 use Rattle.whole.proofs.Distances.{gap}
 use Rattle.whole.proofs.Integers.{natAbs-neg}
 use Rattle.bounds.proofs.Divisors.{divides-sum, divides-power}
 use Rattle.bounds.proofs.Laws.{Ground, Coarse, Laws}
-use Rattle.bounds.proofs.Cases.{Last, Shape, near-sum, from, under, below-near}
+use Rattle.bounds.proofs.Cases.{Last, Shape, near-sum}
 
 pub pos-gap : (s y : ℕ) → natAbs (pos s -ℤ pos y) ≡ gap s y
 pos-gap s y = omega (arith, ints)
@@ -91,7 +89,8 @@ module _ (β B : ℕ) (ground : Ground β B) (rn : ℤ → ℤ) (law : Laws β B
       let vk : 8 * V ≤ K = V-small (suc k) in
       let finer : β ^ k ∣ V = divides-power β k (suc k) (omega arith) in
       let d1 : β ^ k ∣ K = dvd-trans (β ^ k) finer (dvd-mul-left V B) in
-      let d2 : β ^ k ∣ natAbs (pos K +ℤ pos H) = divides-sum (β ^ k) (pos K) (pos H) d1 (dvd-mul-left (β ^ k) (ground .h)) in
+      let d2 : β ^ k ∣ natAbs (pos K +ℤ pos H) =
+      divides-sum (β ^ k) (pos K) (pos H) d1 (dvd-mul-left (β ^ k) (ground .h)) in
       let d3 : β ^ k ∣ natAbs (negℤ (rn (pos P))) =
       subst (λ (m : ℕ). β ^ k ∣ m) (sym (natAbs-neg (rn (pos P)))) (dvd-trans (β ^ k) finer multiple) in
       let d4 : β ^ k ∣ natAbs M = divides-sum (β ^ k) (pos K +ℤ pos H) (negℤ (rn (pos P))) d2 d3 in
@@ -111,7 +110,8 @@ module _ (β B : ℕ) (ground : Ground β B) (rn : ℤ → ℤ) (law : Laws β B
       let x : ℤ = P +ℤ E in
       let a : natAbs y ≤ natAbs x + natAbs (y -ℤ x) = omega (arith, ints) in
       let b : natAbs (rn y -ℤ x) ≤ natAbs (rn y -ℤ y) + natAbs (y -ℤ x) = omega (arith, ints) in
-      near-sum B (natAbs x) (natAbs y) (natAbs (rn y -ℤ x)) (natAbs (rn y -ℤ y)) (natAbs (y -ℤ x)) a b (law .relative y) h
+      near-sum B (natAbs x) (natAbs y) (natAbs (rn y -ℤ x)) (natAbs (rn y -ℤ y)) (natAbs (y -ℤ x)) a b
+      (law .relative y) h
 
   -- P is kept, and the error of E is small beside P + E
   pub exact-first : (P E : ℤ) → rn P ≡ P
@@ -136,13 +136,15 @@ module _ (β B : ℕ) (ground : Ground β B) (rn : ℤ → ℤ) (law : Laws β B
   flip-close P E c =
       let a : rn (rn (negℤ P) +ℤ rn (negℤ E)) ≡ negℤ (rn (rn P +ℤ rn E)) =
       ap rn (ap₂ (λ (a b : ℤ). a +ℤ b) (law .odd P) (law .odd E) ∙ neg-sum (rn P) (rn E)) ∙ law .odd (rn P +ℤ rn E) in
-      let far : natAbs (rn (rn (negℤ P) +ℤ rn (negℤ E)) -ℤ (negℤ P +ℤ negℤ E)) ≡ natAbs (rn (rn P +ℤ rn E) -ℤ (P +ℤ E)) =
+      let far : natAbs (rn (rn (negℤ P) +ℤ rn (negℤ E)) -ℤ (negℤ P +ℤ negℤ E))
+      ≡ natAbs (rn (rn P +ℤ rn E) -ℤ (P +ℤ E)) =
       ap (λ (z : ℤ). natAbs (z -ℤ (negℤ P +ℤ negℤ E))) a ∙ neg-gap (rn (rn P +ℤ rn E)) P E in
       let size : natAbs (negℤ P +ℤ negℤ E) ≡ natAbs (P +ℤ E) = ap natAbs (neg-sum P E) ∙ natAbs-neg (P +ℤ E) in
       subst (λ (w : ℕ). B * natAbs (rn (rn P +ℤ rn E) -ℤ (P +ℤ E)) ≤ w) size
       (subst (λ (w : ℕ). B * w ≤ natAbs (negℤ P +ℤ negℤ E)) far c)
 
-  abbrev pub flip-coarse : (P : ℕ) → Coarse β B (negsuc P) (rn (negsuc P)) → Coarse β B (pos (suc P)) (rn (pos (suc P)))
+  abbrev pub flip-coarse : (P : ℕ) → Coarse β B (negsuc P) (rn (negsuc P))
+      → Coarse β B (pos (suc P)) (rn (pos (suc P)))
   flip-coarse P co = record {
     k = co .k;
     lo = co .lo;
@@ -153,9 +155,6 @@ module _ (β B : ℕ) (ground : Ground β B) (rn : ℤ → ℤ) (law : Laws β B
 
   -- P > 0 is cut at the unit V = β^(k+1)
   module _ (P : ℕ) (E : ℤ) (co : Coarse β B (pos P) (rn (pos P))) where
-    abbrev V : ℕ
-    V = β ^ suc (co .k)
-
     pub r-half : 2 * natAbs (rn (pos P) -ℤ pos P) ≤ β ^ suc (co .k)
     r-half = law .half (pos P) (suc (co .k)) (omega (arith, co .hi))
 

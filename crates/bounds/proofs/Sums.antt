@@ -1,10 +1,10 @@
 -- The error theorems on whole numbers: X = ab and Y = cd in one unit, zeros and every sign included.
-use mathlib.Core.Path.{_≡_, refl, sym, ap, ap₂, _∙_, subst}
-use mathlib.Core.Logic.{_⊎_, inl, inr}
+use mathlib.Core.Path.{_≡_, sym, ap, ap₂, _∙_, subst}
+use mathlib.Core.Logic.{inl, inr}
 use Prim.Native.Nat.{ℕ, suc, _+_, _*_, _^_, _≤_, _<_, _∣_}
 use native.Mathlib.Nat.{dvd-zero}
 use native.Mathlib.Omega.{arith}
-use lib.IntN.{ℤ, pos, _+ℤ_, _-ℤ_, natAbs, +ℤ-comm}
+use lib.IntN.{ℤ, pos, _+ℤ_, _-ℤ_, natAbs}
 use borrow.Author.Differences.{ints}
 use Rattle.bounds.proofs.Laws.{Ground, Laws}
 use Rattle.bounds.proofs.Steps.{zero-fixed, Close, exact-both}
@@ -19,11 +19,6 @@ kahanWhole rn X Y = rn (rn (X +ℤ rn Y) +ℤ rn (Y -ℤ rn Y))
 
 abbrev pub symmetricWhole : (ℤ → ℤ) → ℤ → ℤ → ℤ
 symmetricWhole rn X Y = rn (rn (rn X +ℤ rn Y) +ℤ rn (rn (X -ℤ rn X) +ℤ rn (Y -ℤ rn Y)))
-
--- exchanging the products changes no rounding
-pub symmetric-swap : (rn : ℤ → ℤ) (X Y : ℤ) → symmetricWhole rn X Y ≡ symmetricWhole rn Y X
-symmetric-swap rn X Y =
-    ap₂ (λ (p e : ℤ). rn (rn p +ℤ rn e)) (+ℤ-comm (rn X) (rn Y)) (+ℤ-comm (rn (X -ℤ rn X)) (rn (Y -ℤ rn Y)))
 
 module _ (β B : ℕ) (ground : Ground β B) (rn : ℤ → ℤ) (law : Laws β B rn) where
   term-grain : (X : ℤ) (i : ℕ) → Term β B ground X i → (β ^ i ∣ natAbs X) × (natAbs X ≤ ground .c * ground .c * β ^ i)
@@ -50,7 +45,8 @@ module _ (β B : ℕ) (ground : Ground β B) (rn : ℤ → ℤ) (law : Laws β B
       mixed : (x y r : ℤ) → x +ℤ r +ℤ (y -ℤ r) ≡ x +ℤ y
       mixed x y r = omega (arith, ints)
 
-  kahan-situation : (X Y : ℤ) (i j : ℕ) → Term β B ground X i → Term β B ground Y j → Situation β B ground rn law (X +ℤ rn Y) (Y -ℤ rn Y)
+  kahan-situation : (X Y : ℤ) (i j : ℕ) → Term β B ground X i → Term β B ground Y j
+      → Situation β B ground rn law (X +ℤ rn Y) (Y -ℤ rn Y)
   kahan-situation X Y i j x (inr y) =
       situation β B ground rn law X Y i j (term-grain X i x .0) (term-grain X i x .1) (parts β B ground rn law Y j y)
   kahan-situation X Y i j x (inl y) = elim (law .unit (X +ℤ rn Y)) [
@@ -68,7 +64,8 @@ module _ (β B : ℕ) (ground : Ground β B) (rn : ℤ → ℤ) (law : Laws β B
       (situation-close β B ground rn law (X +ℤ rn Y) (Y -ℤ rn Y) (error-kept Y j y) (kahan-situation X Y i j x y))
 
   -- where X + Y has at most p digits in units of β^v
-  pub kahan-placed : (X Y : ℤ) (i j : ℕ) → Term β B ground X i → Term β B ground Y j → (v : ℕ) → natAbs (X +ℤ Y) < β * B * β ^ v
+  pub kahan-placed : (X Y : ℤ) (i j : ℕ) → Term β B ground X i → Term β B ground Y j
+      → (v : ℕ) → natAbs (X +ℤ Y) < β * B * β ^ v
       → 2 * natAbs (kahanWhole rn X Y -ℤ (X +ℤ Y)) ≤ β ^ suc v + β ^ v
   kahan-placed X Y i j x y v h =
       subst (λ (z : ℤ). 2 * natAbs (kahanWhole rn X Y -ℤ z) ≤ β ^ suc v + β ^ v) (kahan-sum X Y)

@@ -1,7 +1,7 @@
 -- The symmetric method: both products rounded, then rn (rn (rn X + rn Y) + rn (both errors)) is within 1/B of X + Y.
-use mathlib.Core.Path.{_≡_, refl, sym, ap, ap₂, _∙_, subst}
+use mathlib.Core.Path.{_≡_, sym, ap, _∙_, subst}
 use mathlib.Core.Logic.{_⊎_, inl, inr}
-use Prim.Native.Nat.{ℕ, suc, _+_, _*_, _^_, _≤_, _<_, _∣_}
+use Prim.Native.Nat.{ℕ, suc, _+_, _*_, _^_, _≤_, _<_}
 use native.Mathlib.Nat.{mul-le-mul, mul-le-mul-right, mul-le-mul-left, dvd-trans}
 use native.Mathlib.Omega.{arith}
 use lib.IntN.{ℤ, pos, negsuc, _+ℤ_, _-ℤ_, negℤ, natAbs, +ℤ-comm}
@@ -13,9 +13,9 @@ use Rattle.whole.proofs.Integers.{natAbs-neg}
 use Rattle.whole.proofs.Powers.{power-pos, power-le}
 use Rattle.bounds.proofs.Divisors.{divides-sum, divides-power}
 use Rattle.bounds.proofs.Laws.{Ground, Coarse, Laws}
-use Rattle.bounds.proofs.Cases.{Shape, from, under, below-near}
-use Rattle.bounds.proofs.Steps.{unit-is, V-small, last-of, key, Close, near-close, exact-first, flip-close, flip-coarse}
-use Rattle.bounds.proofs.Steps.{r-half, r-low, Shaped, shaped}
+use Rattle.bounds.proofs.Cases.{from, under, below-near}
+use Rattle.bounds.proofs.Steps.{unit-is, V-small, last-of, key, Close, near-close, exact-first, flip-close}
+use Rattle.bounds.proofs.Steps.{flip-coarse, r-half, Shaped, shaped}
 use Rattle.bounds.proofs.Products.{Parts}
 use Rattle.bounds.proofs.Grain.{grain}
 
@@ -80,7 +80,8 @@ module _ (β B : ℕ) (ground : Ground β B) (rn : ℤ → ℤ) (law : Laws β B
           let yt : y ≤ K + H = sum-top (rn (pos P)) (rn E) K H y e top in
           omega (arith, yt, VH)
         where
-          x-below : (x : ℕ) → pos P +ℤ E ≡ pos x → x < B * β ^ suc (co .k) → (pos P +ℤ E) <ℤ (pos (B * β ^ suc (co .k)))
+          x-below : (x : ℕ) → pos P +ℤ E ≡ pos x → x < B * β ^ suc (co .k)
+              → (pos P +ℤ E) <ℤ (pos (B * β ^ suc (co .k)))
           x-below x e h = omega (arith, ints)
 
           sum-top : (r e : ℤ) (K H y : ℕ) → r +ℤ e ≡ pos y → e ≤ℤ (pos K +ℤ pos H -ℤ r) → y ≤ K + H
@@ -153,7 +154,8 @@ module _ (β B : ℕ) (ground : Ground β B) (rn : ℤ → ℤ) (law : Laws β B
       omega (arith, ints)
 
   -- two products, the one with the larger unit first
-  module _ (X Y : ℤ) (i j : ℕ) (a : Parts β B ground rn law X i) (b : Parts β B ground rn law Y j) (le : b .k ≤ a .k) where
+  module _ (X Y : ℤ) (i j : ℕ) (a : Parts β B ground rn law X i) (b : Parts β B ground rn law Y j)
+      (le : b .k ≤ a .k) where
     abbrev P : ℤ
     P = rn X +ℤ rn Y
 
@@ -191,7 +193,12 @@ module _ (β B : ℕ) (ground : Ground β B) (rn : ℤ → ℤ) (law : Laws β B
         at-most g = elim (cases-lt (suc m) (a .k)) [
           | inr l ↦ l
           | inl l ↦ absurd (not-larger (rn X) (rn Y) (β ^ a .k) (β ^ b .k) (β ^ m) (power-pos β m (ground .two))
-              (omega (arith, next (suc m), ap (λ (n : ℕ). β * n) (next m), power-le β (suc (suc m)) (a .k) (ground .two) l))
+              (omega (
+                arith,
+                next (suc m),
+                ap (λ (n : ℕ). β * n) (next m),
+                power-le β (suc (suc m)) (a .k) (ground .two) l,
+              ))
               fine (a .rounded-lo) (b .rounded-hi) (co .hi))
         ]
 

@@ -5,7 +5,7 @@ use mathlib.Core.Logic.{_⊎_, inl, inr}
 use Prim.Native.Nat.{ℕ, zero, suc, _+_, _*_, _-_, _/_, _%_, _^_, _≤_, _<_}
 use native.Mathlib.Nat.{mul-le-mul, div-add-mod', mod-lt, pow-zero, mul-one, div-one, mod-one}
 use native.Mathlib.Omega.{arith}
-use lib.IntN.{ℤ, pos, negsuc, _+ℤ_, _-ℤ_, _*ℤ_, negℤ, natAbs, zero-*ℤ}
+use lib.IntN.{ℤ, pos, _-ℤ_, _*ℤ_, natAbs, zero-*ℤ}
 use lib.Signed.{_≤ℤ_}
 use borrow.Author.Differences.{ints}
 use Rattle.std.proofs.shelf.Tests.{cases-lt}
@@ -14,7 +14,7 @@ use Rattle.whole.proofs.Quotients.{same-quotient}
 use Rattle.rounding.specs.declared.Figure.{Figure}
 use Rattle.rounding.specs.Exact.{Exact, value, units}
 use Rattle.rounding.specs.Digits.{digits}
-use Rattle.rounding.specs.Rounding.{negative, signed, raise, quotient, rounded, zeroFigure}
+use Rattle.rounding.specs.Rounding.{negative, signed, raise, quotient, rounded}
 use Rattle.rounding.proofs.Digits.{digits-zero, digits-low, digits-high, digits-is}
 use Rattle.rounding.proofs.Places.{Placed, place-lo, place-hi}
 use Rattle.rounding.proofs.Computed.{rounded-zero, cut-place}
@@ -73,9 +73,6 @@ module _ (β p : ℕ) (even : β % 2 ≡ 0) (two : 2 ≤ β) (some : 2 ≤ p) wh
     | inr h ↦ inr (cut (digits β t - p - 1) (longer h))
   ]
     where
-      full : β ^ p ≤ t → 1 ≤ t
-      full h = omega (arith, power-pos β p two)
-
       longer : β ^ p ≤ t → digits β t ≡ p + suc (digits β t - p - 1)
       longer h = omega (arith, power-order β p (digits β t) two (omega (arith, h, digits-high β t two)))
 
@@ -140,11 +137,13 @@ module _ (β p : ℕ) (even : β % 2 ≡ 0) (two : 2 ≤ β) (some : 2 ≤ p) wh
         let T : ℕ = natAbs (x .m) * β ^ natAbs (x .e -ℤ k) in
         let T-pos : 0 < T = omega (arith, mul-le-mul full (power-pos β (natAbs (x .e -ℤ k)) two)) in
         s .is ∙ ap (signed (negative (x .m))) (sym (near-place T (s .l) (s .d) (s .w) (s .b) (s .place)))
-        ∙ sym (near-signed (negative (x .m)) T T-pos) ∙ ap (nearZ β p) (sym (own-sign (x .m) (β ^ natAbs (x .e -ℤ k)))))
+        ∙ sym (near-signed (negative (x .m)) T T-pos)
+        ∙ ap (nearZ β p) (sym (own-sign (x .m) (β ^ natAbs (x .e -ℤ k)))))
     | inr none ↦ (
         let z : natAbs (x .m) ≡ 0 = omega arith in
         let m : x .m ≡ pos 0 = nil (x .m) z in
-        let u : units β k x ≡ pos 0 = ap (λ (n : ℤ). n *ℤ pos (β ^ natAbs (x .e -ℤ k))) m ∙ zero-*ℤ (pos (β ^ natAbs (x .e -ℤ k))) in
+        let u : units β k x ≡ pos 0 = ap (λ (n : ℤ). n *ℤ pos (β ^ natAbs (x .e -ℤ k))) m
+        ∙ zero-*ℤ (pos (β ^ natAbs (x .e -ℤ k))) in
         ap (λ (f : Figure). units β k (value f)) (rounded-zero β p x z) ∙ zero-*ℤ (pos (β ^ natAbs (pos 0 -ℤ k)))
         ∙ sym (ap pos (near-small 0 (power-pos β p two))) ∙ ap (nearZ β p) (sym u))
   ]

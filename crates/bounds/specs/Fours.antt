@@ -1,7 +1,7 @@
 -- The four operands of a sum of two products: which are accepted, and the exact sum.
 use mathlib.Core.Bool.{cond}
 use mathlib.Core.Path.{_≡_}
-use Prim.Native.Nat.{ℕ, _+_, _*_, _^_, _≤_}
+use Prim.Native.Nat.{ℕ, _+_, _*_, _≤_}
 use Rattle.std.specs.declared.option.Option.{Option}
 use Rattle.std.specs.declared.option.Option.the-variants.{Some, None}
 use Rattle.std.specs.declared.result.Result.{Result}
@@ -14,7 +14,8 @@ use Rattle.rounding.specs.Operations.{isFigure, reaches}
 
 -- what is wrong with an operand of a method: no figure of the kind, before an exponent outside -200..200
 abbrev pub fault : ℕ → ℕ → Figure → Option ℕ
-fault β p f = cond (isFigure β p f) (cond (reaches 200 f) None (Some (number OperandRange))) (Some (number OperandNoFigure))
+fault β p f = cond (isFigure β p f) (cond (reaches 200 f) None (Some (number OperandRange)))
+    (Some (number OperandNoFigure))
 
 -- the first fault from the left
 abbrev pub faults : ℕ → ℕ → Figure → Figure → Figure → Figure → Option ℕ

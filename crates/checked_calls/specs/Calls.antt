@@ -37,8 +37,12 @@ answer β p m (Fused x y z) = fusedSum β p x y z
 answer β p m (Sum a b c d) = unless (faults β p a b c d) (m a b c d)
 answer β p m (Determinant a b c d) = unless (faults β p a b c d) (m a d (opposite b) c)
 
-unfoldable pub answerOf : Arrangement → Call → Result Figure ℕ
-answerOf by call = answer (radixOf by) (precisionOf by) (methodOf by (radixOf by) (precisionOf by)) call
+-- the same, kept shut where only the call matters
+unfoldable pub answered : ℕ → ℕ → (Figure → Figure → Figure → Figure → Figure) → Call → Result Figure ℕ
+answered β p m call = answer β p m call
+
+abbrev pub answerOf : Arrangement → Call → Result Figure ℕ
+answerOf by call = answered (radixOf by) (precisionOf by) (methodOf by (radixOf by) (precisionOf by)) call
 
 -- what a complex product answers: both parts by the method m
 unfoldable pub productOf : ℕ → ℕ → (Figure → Figure → Figure → Figure → Figure) → Figure → Figure → Figure → Figure

@@ -1,7 +1,7 @@
 // Calls as values, and how they are made.
 ghost use mathlib.Core.Path.{_≡_};
 ghost use Rattle.rounding.specs.Refusals.{coded};
-ghost use Rattle.checked_calls.specs.Calls.{radixOf, precisionOf, methodOf, answer, answerOf, productOf};
+ghost use Rattle.checked_calls.specs.Calls.{radixOf, precisionOf, methodOf, answer, answered, answerOf, productOf};
 use figures::arithmetic::Arithmetic;
 use integers::IntegerArithmetic;
 use integers::IntegerBinaryArithmetic;
@@ -30,6 +30,18 @@ pub enum Arrangement {
     Symmetric,
 }
 
+const BINARY: Kahan<Integers<kinds::Binary>> = Kahan {
+    arithmetic: PhantomData,
+};
+
+const DECIMAL: Kahan<Integers<kinds::Decimal>> = Kahan {
+    arithmetic: PhantomData,
+};
+
+const SYMMETRIC: Symmetric<Integers<kinds::Binary>> = Symmetric {
+    arithmetic: PhantomData,
+};
+
 #[derive(Clone, Copy)]
 pub enum Call {
     Multiply(Figure, Figure),
@@ -49,7 +61,8 @@ pub struct Answered {
 
 // Makes a call by any method and its arithmetic.
 fn perform<M: Method>(method: &M, call: Call) -> Result<Figure, Refusal>
-    ensures { λ r. ⌜ coded r ≡ answer (Arith·Kind .beta) (Arith·Kind .prec) (M·Method .answer (now (method .entry))) call ⌝ }
+    ensures { λ r. ⌜ coded r ≡ answer (Arith·Kind .beta) (Arith·Kind .prec)
+        (M·Method .answer (now (method .entry))) call ⌝ }
 {
     match call {
         Call::Multiply(x, y) => M::Arith::multiply(x, y),
@@ -60,36 +73,22 @@ fn perform<M: Method>(method: &M, call: Call) -> Result<Figure, Refusal>
     }
 }
 
-fn dispatched(by: Arrangement, call: Call) -> Result<Figure, Refusal>
-    ensures { λ r. ⌜ coded r ≡ answer (radixOf by) (precisionOf by) (methodOf by (radixOf by) (precisionOf by)) call ⌝ }
+fn performed<M: Method>(method: &M, call: Call) -> Result<Figure, Refusal>
+    ensures { λ r. ⌜ coded r ≡ answered (Arith·Kind .beta) (Arith·Kind .prec)
+        (M·Method .answer (now (method .entry))) call ⌝ }
 {
-    match by {
-        Arrangement::Binary => perform(
-            &Kahan::<Integers<kinds::Binary>> {
-                arithmetic: PhantomData,
-            },
-            call,
-        ),
-        Arrangement::Decimal => perform(
-            &Kahan::<Integers<kinds::Decimal>> {
-                arithmetic: PhantomData,
-            },
-            call,
-        ),
-        Arrangement::Symmetric => perform(
-            &Symmetric::<Integers<kinds::Binary>> {
-                arithmetic: PhantomData,
-            },
-            call,
-        ),
-    }
+    perform(method, call)
 }
 
 // Makes a call by an arrangement.
 pub fn answer_of(by: Arrangement, call: Call) -> Result<Figure, Refusal>
     ensures { λ r. ⌜ coded r ≡ answerOf by call ⌝ }
 {
-    dispatched(by, call)
+    match by {
+        Arrangement::Binary => performed(&BINARY, call),
+        Arrangement::Decimal => performed(&DECIMAL, call),
+        Arrangement::Symmetric => performed(&SYMMETRIC, call),
+    }
 }
 
 fn product_by<M: Method>(
@@ -113,37 +112,12 @@ pub fn product_of(
     c: Figure,
     d: Figure,
 ) -> Result<(Figure, Figure), Refusal>
-    ensures { λ r. ⌜ coded r ≡ productOf (radixOf by) (precisionOf by) (methodOf by (radixOf by) (precisionOf by)) a b c d ⌝ }
+    ensures { λ r. ⌜ coded r ≡ productOf (radixOf by) (precisionOf by)
+        (methodOf by (radixOf by) (precisionOf by)) a b c d ⌝ }
 {
     match by {
-        Arrangement::Binary => product_by(
-            &Kahan::<Integers<kinds::Binary>> {
-                arithmetic: PhantomData,
-            },
-            a,
-            b,
-            c,
-            d,
-        ),
-        Arrangement::Decimal => product_by(
-            &Kahan::<Integers<kinds::Decimal>> {
-                arithmetic: PhantomData,
-            },
-            a,
-            b,
-            c,
-            d,
-        ),
-        Arrangement::Symmetric => {
-            product_by(
-                &Symmetric::<Integers<kinds::Binary>> {
-                    arithmetic: PhantomData,
-                },
-                a,
-                b,
-                c,
-                d,
-            )
-        }
+        Arrangement::Binary => product_by(&BINARY, a, b, c, d),
+        Arrangement::Decimal => product_by(&DECIMAL, a, b, c, d),
+        Arrangement::Symmetric => product_by(&SYMMETRIC, a, b, c, d),
     }
 }

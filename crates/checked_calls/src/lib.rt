@@ -125,8 +125,8 @@ fn all_made() -> [Answered; 13]
     ]
 }
 
-// The thirteen calls with the answers that the library gives: those of the examples, which follow from the definitions.
-// What these rest on is that rounding means what it says.
+// The thirteen calls with the answers that the library gives: those of the examples, which follow from the
+// definitions; and that the rounding which these rest on means what it says.
 pub fn checked_calls() -> [Answered; 13]
     ensures meaning { λ _. ⌜ Rounds-to-nearest ⌝ }
     ensures definitions { λ _. ⌜ Examples-hold ⌝ }

@@ -10,6 +10,7 @@ use Rattle.std.specs.declared.result.Result.the-variants.{Ok, Err}
 use Rattle.std.specs.Written.{decimal}
 use Rattle.rounding.specs.declared.Figure.{Figure}
 use Rattle.spelling.specs.Spelled.{spelled}
+use Rattle.demo.specs.declared.sentences.Four.{Four}
 use Rattle.checked_calls.specs.declared.calls.Arrangement.{Arrangement}
 use Rattle.checked_calls.specs.declared.calls.Arrangement.the-variants.{Binary, Decimal, Symmetric}
 use Rattle.checked_calls.specs.declared.calls.Call.{Call}
@@ -37,17 +38,15 @@ abbrev pub outcomeText : Arrangement → Result Figure ℕ → List ℕ
 outcomeText by (Ok f) = figureText by f
 outcomeText by (Err n) = refusalText n
 
-abbrev pub pairText : Arrangement → Figure → Figure → List ℕ
-pairText by x y = figureText by x ++ (codes " " ++ figureText by y)
-
 -- the real and the imaginary part, or the number of the refusal
 abbrev pub partsText : Arrangement → Result (Figure × Figure) ℕ → List ℕ
-partsText by (Ok f) = pairText by (f .0) (f .1)
+partsText by (Ok f) = figureText by (f .0) ++ (codes " " ++ figureText by (f .1))
 partsText by (Err n) = refusalText n
 
 abbrev pub fourText : Arrangement → Figure → Figure → Figure → Figure → List ℕ
 fourText by a b c d =
-    figureText by a ++ (codes " " ++ (figureText by b ++ (codes " " ++ (figureText by c ++ (codes " " ++ figureText by d)))))
+    figureText by a ++ (codes " " ++ (figureText by b
+    ++ (codes " " ++ (figureText by c ++ (codes " " ++ figureText by d)))))
 
 abbrev pub callText : Arrangement → Call → List ℕ
 callText by (Multiply x y) = codes "multiply " ++ (figureText by x ++ (codes " by " ++ figureText by y))
@@ -60,8 +59,9 @@ callText by (Determinant a b c d) = codes "det " ++ fourText by a b c d
 abbrev pub sentenceText : Arrangement → Call → Result Figure ℕ → List ℕ
 sentenceText by call r = callText by call ++ (codes ": " ++ outcomeText by r)
 
-abbrev pub productText : Arrangement → Figure → Figure → Figure → Figure → Result (Figure × Figure) ℕ → List ℕ
-productText by a b c d r = codes "mul " ++ (fourText by a b c d ++ (codes ": " ++ partsText by r))
+abbrev pub productText : Four → Result (Figure × Figure) ℕ → List ℕ
+productText x r =
+    codes "mul " ++ (fourText (x .by) (x .a) (x .b) (x .c) (x .d) ++ (codes ": " ++ partsText (x .by) r))
 
 -- who touched first, by the sign of a difference of two times
 abbrev pub verdictText : ℤ → List ℕ

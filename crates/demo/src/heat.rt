@@ -4,7 +4,8 @@ ghost use Rattle.std.specs.declared.result.Result.the-variants.{Ok};
 ghost use Rattle.std.specs.Vec.{made};
 ghost use Rattle.checked_calls.specs.Calls.{answerOf};
 ghost use Rattle.demo.specs.Steps.{productsFirst, errorKept};
-use crate::sentences::sentence;
+use crate::sentences::Sentence;
+use crate::sentences::SentenceDisplay;
 use checked_calls::calls::Arrangement;
 use checked_calls::calls::Call;
 use checked_calls::calls::answer_of;
@@ -42,7 +43,7 @@ fn act(rt: &LibcRuntime, by: Arrangement, call: Call) -> Result<Figure, AnyError
     ensures { λ r. ⌜ made r (λ f. answerOf by call ≡ Ok f) ⌝ }
 {
     let answer = answer_of(by, call);
-    let line = sentence(rt.alloc(), by, call, answer)?;
+    let line = Sentence { by, call, answer };
     println!(rt, "  {line}")?;
     match answer {
         Ok(f) => Ok(f),

@@ -11,30 +11,36 @@ use checked_calls::checked_calls;
 use heat::Heat;
 use heat::error_kept;
 use heat::products_first;
+use sentences::ProductSentence;
+use sentences::ProductSentenceDisplay;
+use sentences::Sentence;
+use sentences::SentenceDisplay;
+use sentences::Shown;
+use sentences::ShownDisplay;
 use sentences::name_of;
-use sentences::product_sentence;
-use sentences::sentence;
-use sentences::spell_in;
 use sentences::verdict;
 use shown::CALLS;
 use shown::PRODUCTS;
-use spelling::SpellingDisplay;
 use std::error::AnyError;
 
 fn main(rt: LibcRuntime) -> Result<(), AnyError> {
     println!(rt, "Calls with known answers")?;
     for made in checked_calls() {
-        let line = sentence(rt.alloc(), made.by, made.call, made.answer)?;
+        let line = Sentence {
+            by: made.by,
+            call: made.call,
+            answer: made.answer,
+        };
         println!(rt, "  {line}")?;
     }
     for (by, heat) in [
         (Arrangement::Binary, Heat::BINARY),
         (Arrangement::Decimal, Heat::DECIMAL),
     ] {
-        let a = spell_in(by, heat.a);
-        let b = spell_in(by, heat.b);
-        let c = spell_in(by, heat.c);
-        let d = spell_in(by, heat.d);
+        let a = Shown { by, figure: heat.a };
+        let b = Shown { by, figure: heat.b };
+        let c = Shown { by, figure: heat.c };
+        let d = Shown { by, figure: heat.d };
         println!(
             rt,
             "The first lane's time less the second's: {a} x {b} - {c} x {d}"
@@ -48,12 +54,17 @@ fn main(rt: LibcRuntime) -> Result<(), AnyError> {
     }
     println!(rt, "Sums, determinants and complex products")?;
     for (by, call) in CALLS {
-        let line = sentence(rt.alloc(), by, call, answer_of(by, call))?;
+        let line = Sentence {
+            by,
+            call,
+            answer: answer_of(by, call),
+        };
         println!(rt, "  {}: {line}", name_of(by))?;
     }
-    for (by, a, b, c, d) in PRODUCTS {
-        let line = product_sentence(rt.alloc(), by, a, b, c, d, product_of(by, a, b, c, d))?;
-        println!(rt, "  {}: {line}", name_of(by))?;
+    for four in PRODUCTS {
+        let answer = product_of(four.by, four.a, four.b, four.c, four.d);
+        let line = ProductSentence { four, answer };
+        println!(rt, "  {}: {line}", name_of(four.by))?;
     }
     Ok(())
 }

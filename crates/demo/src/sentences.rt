@@ -1,10 +1,9 @@
-// What the program says of a call, and of a difference.
+// What the program says of a call, and of a difference: types that print themselves, with the bytes that they print.
 ghost use mathlib.Core.Path.{_≡_};
-ghost use Rattle.std.specs.Of.String.{string-bytes};
-ghost use Rattle.std.specs.Vec.{made};
+ghost use Rattle.std.specs.declared.option.Option.the-variants.{Some};
 ghost use Rattle.rounding.specs.Refusals.{number, coded};
 ghost use Rattle.spelling.specs.Spelled.{textOf};
-ghost use Rattle.demo.specs.Sentences.{figureText, nameText, refusalText, outcomeText, pairText, partsText, fourText};
+ghost use Rattle.demo.specs.Sentences.{figureText, nameText, refusalText, outcomeText, partsText, fourText};
 ghost use Rattle.demo.specs.Sentences.{callText, sentenceText, productText, verdictText};
 use checked_calls::calls::Arrangement;
 use checked_calls::calls::Call;
@@ -17,11 +16,10 @@ use rounding::Refusal;
 use spelling::SpellingDisplay;
 use spelling::spell;
 use spelling::text::Spelling;
-use std::alloc::AllocError;
-use std::alloc::Global;
+use std::fmt;
 
 // The text of a figure of the arrangement's kind.
-pub fn spell_in(by: Arrangement, f: Figure) -> Spelling
+fn spell_in(by: Arrangement, f: Figure) -> Spelling
     ensures { λ r. ⌜ textOf r ≡ figureText by f ⌝ }
 {
     match by {
@@ -31,6 +29,205 @@ pub fn spell_in(by: Arrangement, f: Figure) -> Spelling
     }
 }
 
+// A figure of the arrangement's kind.
+#[derive(Clone, Copy)]
+pub struct Shown {
+    pub by: Arrangement,
+    pub figure: Figure,
+}
+
+pub impl fmt::Display for Shown as ShownDisplay {
+    ghost shown = { λ x. Some (figureText (x .by) (x .figure)) };
+
+    fn fmt<W: fmt::Write>(&self, f: &mut fmt::Formatter<W>) -> fmt::Result {
+        let text = spell_in(self.by, self.figure);
+        write!(f, "{text}")
+    }
+}
+
+// Four of them, spaced singly.
+#[derive(Clone, Copy)]
+pub struct Four {
+    pub by: Arrangement,
+    pub a: Figure,
+    pub b: Figure,
+    pub c: Figure,
+    pub d: Figure,
+}
+
+pub impl fmt::Display for Four as FourDisplay {
+    ghost shown = { λ x. Some (fourText (x .by) (x .a) (x .b) (x .c) (x .d)) };
+
+    fn fmt<W: fmt::Write>(&self, f: &mut fmt::Formatter<W>) -> fmt::Result {
+        let by = self.by;
+        let a = Shown { by, figure: self.a };
+        let b = Shown { by, figure: self.b };
+        let c = Shown { by, figure: self.c };
+        let d = Shown { by, figure: self.d };
+        write!(f, "{a} {b} {c} {d}")
+    }
+}
+
+// A call with its operands.
+#[derive(Clone, Copy)]
+struct Operands {
+    by: Arrangement,
+    call: Call,
+}
+
+impl fmt::Display for Operands as OperandsDisplay {
+    ghost shown = { λ x. Some (callText (x .by) (x .call)) };
+
+    fn fmt<W: fmt::Write>(&self, f: &mut fmt::Formatter<W>) -> fmt::Result {
+        let by = self.by;
+        match self.call {
+            Call::Multiply(x, y) => {
+                let x = Shown { by, figure: x };
+                let y = Shown { by, figure: y };
+                write!(f, "multiply {x} by {y}")
+            }
+            Call::Add(x, y) => {
+                let x = Shown { by, figure: x };
+                let y = Shown { by, figure: y };
+                write!(f, "add {x} and {y}")
+            }
+            Call::Fused(x, y, z) => {
+                let x = Shown { by, figure: x };
+                let y = Shown { by, figure: y };
+                let z = Shown { by, figure: z };
+                write!(f, "fused {x} by {y} and {z}")
+            }
+            Call::Sum(a, b, c, d) => {
+                let four = Four { by, a, b, c, d };
+                write!(f, "sum {four}")
+            }
+            Call::Determinant(a, b, c, d) => {
+                let four = Four { by, a, b, c, d };
+                write!(f, "det {four}")
+            }
+        }
+    }
+}
+
+// A refusal, by its number.
+#[derive(Clone, Copy)]
+struct Refused {
+    refusal: Refusal,
+}
+
+impl fmt::Display for Refused as RefusedDisplay {
+    ghost shown = { λ x. Some (refusalText (number (x .refusal))) };
+
+    fn fmt<W: fmt::Write>(&self, f: &mut fmt::Formatter<W>) -> fmt::Result {
+        let number = self.refusal.code();
+        write!(f, "refused with {number}")
+    }
+}
+
+// What a call answered: a figure, or a refusal.
+#[derive(Clone, Copy)]
+struct Outcome {
+    by: Arrangement,
+    answer: Result<Figure, Refusal>,
+}
+
+impl fmt::Display for Outcome as OutcomeDisplay {
+    ghost shown = { λ x. Some (outcomeText (x .by) (coded (x .answer))) };
+
+    fn fmt<W: fmt::Write>(&self, f: &mut fmt::Formatter<W>) -> fmt::Result {
+        match self.answer {
+            Ok(figure) => {
+                let figure = Shown {
+                    by: self.by,
+                    figure,
+                };
+                write!(f, "{figure}")
+            }
+            Err(refusal) => {
+                let refused = Refused { refusal };
+                write!(f, "{refused}")
+            }
+        }
+    }
+}
+
+// A call and what it answered.
+#[derive(Clone, Copy)]
+pub struct Sentence {
+    pub by: Arrangement,
+    pub call: Call,
+    pub answer: Result<Figure, Refusal>,
+}
+
+pub impl fmt::Display for Sentence as SentenceDisplay {
+    ghost shown = { λ x. Some (sentenceText (x .by) (x .call) (coded (x .answer))) };
+
+    fn fmt<W: fmt::Write>(&self, f: &mut fmt::Formatter<W>) -> fmt::Result {
+        let call = Operands {
+            by: self.by,
+            call: self.call,
+        };
+        let outcome = Outcome {
+            by: self.by,
+            answer: self.answer,
+        };
+        write!(f, "{call}: {outcome}")
+    }
+}
+
+// The real and the imaginary part of a product, or a refusal.
+#[derive(Clone, Copy)]
+struct Parts {
+    by: Arrangement,
+    answer: Result<(Figure, Figure), Refusal>,
+}
+
+impl fmt::Display for Parts as PartsDisplay {
+    ghost shown = { λ x. Some (partsText (x .by) (coded (x .answer))) };
+
+    fn fmt<W: fmt::Write>(&self, f: &mut fmt::Formatter<W>) -> fmt::Result {
+        let by = self.by;
+        match self.answer {
+            Ok(parts) => {
+                let real = Shown {
+                    by,
+                    figure: parts.0,
+                };
+                let imaginary = Shown {
+                    by,
+                    figure: parts.1,
+                };
+                write!(f, "{real} {imaginary}")
+            }
+            Err(refusal) => {
+                let refused = Refused { refusal };
+                write!(f, "{refused}")
+            }
+        }
+    }
+}
+
+// A complex product and what it answered.
+#[derive(Clone, Copy)]
+pub struct ProductSentence {
+    pub four: Four,
+    pub answer: Result<(Figure, Figure), Refusal>,
+}
+
+pub impl fmt::Display for ProductSentence as ProductSentenceDisplay {
+    ghost shown = { λ x. Some (productText (x .four) (coded (x .answer))) };
+
+    fn fmt<W: fmt::Write>(&self, f: &mut fmt::Formatter<W>) -> fmt::Result {
+        let four = self.four;
+        let parts = Parts {
+            by: four.by,
+            answer: self.answer,
+        };
+        write!(f, "mul {four}: {parts}")
+    }
+}
+
+// The name of an arrangement.
 pub fn name_of(by: Arrangement) -> &'static str
     ensures { λ r. ⌜ now r ≡ nameText by ⌝ }
 {
@@ -39,140 +236,6 @@ pub fn name_of(by: Arrangement) -> &'static str
         Arrangement::Decimal => "decimal",
         Arrangement::Symmetric => "symmetric",
     }
-}
-
-fn refusal_text(heap: Global, refusal: Refusal) -> Result<String, AllocError>
-    ensures { λ r. ⌜ made r (λ t. string-bytes t ≡ refusalText (number refusal)) ⌝ }
-{
-    let number = refusal.code();
-    format!(heap, "refused with {number}")
-}
-
-fn outcome(
-    heap: Global,
-    by: Arrangement,
-    answer: Result<Figure, Refusal>,
-) -> Result<String, AllocError>
-    ensures { λ r. ⌜ made r (λ t. string-bytes t ≡ outcomeText by (coded answer)) ⌝ }
-{
-    match answer {
-        Ok(f) => {
-            let figure = spell_in(by, f);
-            format!(heap, "{figure}")
-        }
-        Err(refusal) => refusal_text(heap, refusal),
-    }
-}
-
-fn pair(
-    heap: Global,
-    by: Arrangement,
-    real: Figure,
-    imaginary: Figure,
-) -> Result<String, AllocError>
-    ensures { λ r. ⌜ made r (λ t. string-bytes t ≡ pairText by real imaginary) ⌝ }
-{
-    let real = spell_in(by, real);
-    let imaginary = spell_in(by, imaginary);
-    format!(heap, "{real} {imaginary}")
-}
-
-fn parts(
-    heap: Global,
-    by: Arrangement,
-    answer: Result<(Figure, Figure), Refusal>,
-) -> Result<String, AllocError>
-    ensures { λ r. ⌜ made r (λ t. string-bytes t ≡ partsText by (coded answer)) ⌝ }
-{
-    match answer {
-        Ok((real, imaginary)) => pair(heap, by, real, imaginary),
-        Err(refusal) => refusal_text(heap, refusal),
-    }
-}
-
-fn four(
-    heap: Global,
-    by: Arrangement,
-    a: Figure,
-    b: Figure,
-    c: Figure,
-    d: Figure,
-) -> Result<String, AllocError>
-    ensures { λ r. ⌜ made r (λ t. string-bytes t ≡ fourText by a b c d) ⌝ }
-{
-    let a = spell_in(by, a);
-    let b = spell_in(by, b);
-    let c = spell_in(by, c);
-    let d = spell_in(by, d);
-    format!(heap, "{a} {b} {c} {d}")
-}
-
-fn operands(heap: Global, by: Arrangement, call: Call) -> Result<String, AllocError>
-    ensures { λ r. ⌜ made r (λ t. string-bytes t ≡ callText by call) ⌝ }
-{
-    match call {
-        Call::Multiply(x, y) => {
-            let x = spell_in(by, x);
-            let y = spell_in(by, y);
-            format!(heap, "multiply {x} by {y}")
-        }
-        Call::Add(x, y) => {
-            let x = spell_in(by, x);
-            let y = spell_in(by, y);
-            format!(heap, "add {x} and {y}")
-        }
-        Call::Fused(x, y, z) => {
-            let x = spell_in(by, x);
-            let y = spell_in(by, y);
-            let z = spell_in(by, z);
-            format!(heap, "fused {x} by {y} and {z}")
-        }
-        Call::Sum(a, b, c, d) => {
-            let a = spell_in(by, a);
-            let b = spell_in(by, b);
-            let c = spell_in(by, c);
-            let d = spell_in(by, d);
-            format!(heap, "sum {a} {b} {c} {d}")
-        }
-        Call::Determinant(a, b, c, d) => {
-            let a = spell_in(by, a);
-            let b = spell_in(by, b);
-            let c = spell_in(by, c);
-            let d = spell_in(by, d);
-            format!(heap, "det {a} {b} {c} {d}")
-        }
-    }
-}
-
-// A call and what it answered, on one line.
-pub fn sentence(
-    heap: Global,
-    by: Arrangement,
-    call: Call,
-    answer: Result<Figure, Refusal>,
-) -> Result<String, AllocError>
-    ensures { λ r. ⌜ made r (λ t. string-bytes t ≡ sentenceText by call (coded answer)) ⌝ }
-{
-    let call = operands(heap, by, call)?;
-    let outcome = outcome(heap, by, answer)?;
-    format!(heap, "{call}: {outcome}")
-}
-
-// A complex product and what it answered, on one line.
-pub fn product_sentence(
-    heap: Global,
-    by: Arrangement,
-    a: Figure,
-    b: Figure,
-    c: Figure,
-    d: Figure,
-    answer: Result<(Figure, Figure), Refusal>,
-) -> Result<String, AllocError>
-    ensures { λ r. ⌜ made r (λ t. string-bytes t ≡ productText by a b c d (coded answer)) ⌝ }
-{
-    let four = four(heap, by, a, b, c, d)?;
-    let parts = parts(heap, by, answer)?;
-    format!(heap, "mul {four}: {parts}")
 }
 
 // Who touched first, by the difference of the first lane's time and the second's.

@@ -1,4 +1,5 @@
 // The sums, determinants and complex products that the program shows.
+use crate::sentences::Four;
 use checked_calls::calls::Arrangement;
 use checked_calls::calls::Call;
 use rounding::Figure;
@@ -63,26 +64,26 @@ pub const CALLS: [(Arrangement, Call); 9] = [
 ];
 
 // Factors a + bi and c + di whose real part cancels.
-pub const PRODUCTS: [(Arrangement, Figure, Figure, Figure, Figure); 3] = [
-    (
-        Arrangement::Binary,
-        Figure { s: 8388609, q: -23 },
-        Figure { s: 8388608, q: -23 },
-        Figure { s: 8388609, q: -23 },
-        Figure { s: 8388610, q: -23 },
-    ),
-    (
-        Arrangement::Symmetric,
-        Figure { s: 8388609, q: -23 },
-        Figure { s: 8388608, q: -23 },
-        Figure { s: 8388609, q: -23 },
-        Figure { s: 8388610, q: -23 },
-    ),
-    (
-        Arrangement::Decimal,
-        Figure { s: 1000001, q: -6 },
-        Figure { s: 1000000, q: -6 },
-        Figure { s: 1000001, q: -6 },
-        Figure { s: 1000002, q: -6 },
-    ),
+pub const PRODUCTS: [Four; 3] = [
+    Four {
+        by: Arrangement::Binary,
+        a: Figure { s: 8388609, q: -23 },
+        b: Figure { s: 8388608, q: -23 },
+        c: Figure { s: 8388609, q: -23 },
+        d: Figure { s: 8388610, q: -23 },
+    },
+    Four {
+        by: Arrangement::Symmetric,
+        a: Figure { s: 8388609, q: -23 },
+        b: Figure { s: 8388608, q: -23 },
+        c: Figure { s: 8388609, q: -23 },
+        d: Figure { s: 8388610, q: -23 },
+    },
+    Four {
+        by: Arrangement::Decimal,
+        a: Figure { s: 1000001, q: -6 },
+        b: Figure { s: 1000000, q: -6 },
+        c: Figure { s: 1000001, q: -6 },
+        d: Figure { s: 1000002, q: -6 },
+    },
 ];

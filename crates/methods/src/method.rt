@@ -39,5 +39,6 @@ pub trait Method {
 
     // The answer to an accepted four; any other is refused by its first fault from the left.
     fn apply(&self, a: Figure, b: Figure, c: Figure, d: Figure) -> Result<Figure, Refusal>
-        ensures { λ r. ⌜ coded r ≡ unless (faults (Arith·Kind .beta) (Arith·Kind .prec) a b c d) (answer (now (self .entry)) a b c d) ⌝ };
+        ensures { λ r. ⌜ coded r ≡ unless (faults (Arith·Kind .beta) (Arith·Kind .prec) a b c d)
+            (answer (now (self .entry)) a b c d) ⌝ };
 }

@@ -2,7 +2,7 @@
 use mathlib.Core.Path.{_≡_, refl, sym, ap, _∙_, subst}
 use mathlib.Core.Bool.{Bool, true, false, cond}
 use Prim.Native.Nat.{ℕ, _+_, _*_, _-_, _^_, _≤_, _<_}
-use native.Mathlib.Nat.{mul-le-mul-right, mul-lt-mul-of-pos-right, mul-comm, mul-assoc}
+use native.Mathlib.Nat.{mul-le-mul-right, mul-lt-mul-of-pos-right}
 use native.Mathlib.Omega.{arith}
 use lib.Dec.{eqb}
 use lib.IntN.{ℤ, pos, _+ℤ_, _-ℤ_, natAbs}
@@ -13,7 +13,7 @@ use Rattle.whole.proofs.Integers.{natAbs-mul}
 use Rattle.whole.proofs.Powers.{power-pos, power-parts}
 use Rattle.rounding.specs.Exact.{Exact, units}
 use Rattle.rounding.specs.Digits.{digits}
-use Rattle.rounding.specs.Errors.{ulp, LastPlace, Ulp-is-last-place}
+use Rattle.rounding.specs.Errors.{ulp, Ulp-is-last-place}
 use Rattle.rounding.proofs.Digits.{digits-some, digits-low, digits-high}
 
 abbrev none : Exact
@@ -62,7 +62,8 @@ module _ (β p : ℕ) (two : 2 ≤ β) (some : 1 ≤ p) (x : Exact) (full : 0 < 
         let lo : β ^ (D - 1) * β ^ i ≤ natAbs (x .m) * β ^ i =
         mul-le-mul-right (β ^ i) (digits-low β (natAbs (x .m)) two full) in
         let e : β ^ (D - 1) * β ^ i ≡ β ^ (p - 1) * β ^ l = sym (power-parts β (D - 1) i (D - 1 + i) refl)
-        ∙ power-parts β (p - 1) l (D - 1 + i) (less D i l (digits-some β (natAbs (x .m)) two) (counts (x .e) D kx ku)) in
+        ∙ power-parts β (p - 1) l (D - 1 + i)
+        (less D i l (digits-some β (natAbs (x .m)) two) (counts (x .e) D kx ku)) in
         subst (λ (n : ℕ). β ^ (p - 1) * n ≤ natAbs (units β k x)) (sym (units-one β k (place β p x .e)))
         (subst (λ (n : ℕ). β ^ (p - 1) * β ^ l ≤ n) (sym size) (omega arith))
       where

@@ -1,9 +1,8 @@
 -- The theorem above `rounded`: its figure is nearest, ties to even, and the only one that is.
 use mathlib.Core.Path.{_≡_, refl, sym, ap, ap₂, _∙_, subst}
-use mathlib.Core.Bool.{Bool, true, false, cond}
 use mathlib.Core.Logic.{_⊎_, inl, inr}
 use Prim.Native.Nat.{ℕ, _+_, _*_, _-_, _%_, _^_, _≤_, _<_, zero-le}
-use native.Mathlib.Nat.{mul-le-mul, mul-le-mul-right}
+use native.Mathlib.Nat.{mul-le-mul}
 use native.Mathlib.Omega.{arith}
 use lib.IntN.{ℤ, pos, _-ℤ_, _*ℤ_, natAbs, zero-*ℤ}
 use lib.Signed.{_≤ℤ_}
@@ -55,7 +54,8 @@ module _ (β p : ℕ) (even : β % 2 ≡ 0) (two : 2 ≤ β) (some : 2 ≤ p) wh
   normal-top g (inr n) = n .1
 
   -- a figure's size in units of β^k is on every grid
-  figure-grid : (g : Figure) (k : ℤ) (l : ℕ) → Normal β p g → OnGrid (β ^ (p - 1)) (β ^ l) (natAbs (units β k (value g)))
+  figure-grid : (g : Figure) (k : ℤ) (l : ℕ) → Normal β p g
+      → OnGrid (β ^ (p - 1)) (β ^ l) (natAbs (units β k (value g)))
   figure-grid g k l n = subst (OnGrid (β ^ (p - 1)) (β ^ l)) (sym (units-size β g k))
       (on-grid β (β ^ (p - 1)) (β ^ p) two B-pos (power-split β p one) (natAbs (g .s)) (natAbs (g .q -ℤ k)) l
       (normal-top g n))

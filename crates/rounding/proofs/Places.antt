@@ -1,15 +1,15 @@
 -- Where a whole number lies on the grid of a unit V, and which multiple of V it is rounded to.
-use mathlib.Core.Path.{_≡_, refl, sym, ap, ap₂, _∙_, subst}
-use mathlib.Core.Bool.{Bool, true, false, cond}
+use mathlib.Core.Path.{_≡_, sym, ap, ap₂, _∙_, subst}
+use mathlib.Core.Bool.{Bool, cond}
 use mathlib.Core.Logic.{_⊎_, inl, inr}
 use Prim.Native.Nat.{ℕ, _+_, _*_, _-_, _%_, _^_, _≤_, _<_}
-use native.Mathlib.Nat.{mul-le-mul-left, mul-le-mul-right, mul-comm}
+use native.Mathlib.Nat.{mul-le-mul-left, mul-le-mul-right}
 use native.Mathlib.Omega.{arith}
 use lib.Dec.{ltb}
 use Rattle.std.proofs.shelf.Tests.{cases-lt}
 use Rattle.std.proofs.shelf.Ways.{tells}
 use Rattle.whole.proofs.Powers.{power-le, power-split}
-use Rattle.whole.proofs.Quotients.{cancel-lt, same-quotient}
+use Rattle.whole.proofs.Quotients.{same-quotient}
 use native.Mathlib.Nat.{pow-suc}
 use Rattle.rounding.specs.Rounding.{raise}
 

@@ -1,14 +1,14 @@
--- On whole numbers: the rounded multiple of the unit is nearest, and only the other neighbour can be as near, in a tie.
-use mathlib.Core.Path.{_≡_, refl, sym, ap, _∙_}
+-- On whole numbers: the rounded multiple of the unit is nearest, and only the other neighbour can be as near,
+-- in a tie.
+use mathlib.Core.Path.{_≡_, sym, ap, _∙_}
 use mathlib.Core.Logic.{_⊎_, inl, inr}
 use Prim.Native.Nat.{ℕ, _+_, _*_, _-_, _%_, _^_, _≤_, _<_}
-use native.Mathlib.Nat.{mul-le-mul-right, mul-le-mul-left, mul-le-mul, mul-assoc, pow-suc, mul-lt-mul-of-pos-right}
+use native.Mathlib.Nat.{mul-le-mul-right, mul-le-mul-left, mul-assoc, pow-suc, mul-lt-mul-of-pos-right}
 use native.Mathlib.Omega.{arith}
 use Rattle.std.proofs.shelf.Tests.{cases-lt}
 use Rattle.whole.proofs.Distances.{gap}
 use Rattle.whole.proofs.Powers.{power-pos, power-le, power-parts}
 use Rattle.whole.proofs.Quotients.{cancel-eq}
-use Rattle.rounding.specs.Rounding.{raise}
 use Rattle.rounding.proofs.Places.{Placed, raise-less, raise-more, raise-tie, raise-few}
 
 -- G is a multiple of V, or lies below B V
@@ -159,7 +159,8 @@ module _ (B P V T d w b : ℕ) (some : 1 ≤ B) (place : Placed B P V T d w b) w
 module _ (β B P : ℕ) (two : 2 ≤ β) (some : 1 ≤ B) (PB : P ≡ β * B) where
   -- s < P units of a lower power lie below B units of the higher one
   below : (s i l : ℕ) → s < P → i < l → s * β ^ i < B * β ^ l
-  below s i l h g = go (β ^ i) (β ^ l) (β ^ (i + 1)) (power-pos β i two) (next i) (power-le β (i + 1) l two (omega arith))
+  below s i l h g = go (β ^ i) (β ^ l) (β ^ (i + 1)) (power-pos β i two) (next i)
+      (power-le β (i + 1) l two (omega arith))
     where
       next : (i : ℕ) → β ^ (i + 1) ≡ β ^ i * β
       next i = ap (λ (n : ℕ). β ^ n) (omega arith) ∙ pow-suc β i

@@ -1,8 +1,8 @@
 -- A number that is not zero and its rounded figure, counted in any unit as fine as the widened digits.
-use mathlib.Core.Path.{_≡_, refl, sym, ap, ap₂, _∙_, subst}
+use mathlib.Core.Path.{_≡_, refl, sym, ap, _∙_, subst}
 use mathlib.Core.Bool.{Bool, cond}
 use mathlib.Core.Logic.{_⊎_, inl, inr}
-use Prim.Native.Nat.{ℕ, suc, _+_, _*_, _-_, _%_, _^_, _≤_, _<_}
+use Prim.Native.Nat.{ℕ, _+_, _*_, _-_, _%_, _^_, _≤_, _<_}
 use native.Mathlib.Nat.{mul-le-mul-right}
 use native.Mathlib.Omega.{arith}
 use lib.IntN.{ℤ, pos, _+ℤ_, _-ℤ_, _*ℤ_, natAbs}
@@ -142,7 +142,8 @@ module _ (β p : ℕ) (even : β % 2 ≡ 0) (two : 2 ≤ β) (some : 2 ≤ p) (x
       size : Plain β p (negative (x .m)) (f .d + f .b) q (rounded β p x) → natAbs (rounded β p x .s) ≡ f .d + f .b
       size h = ap (λ (g : Figure). natAbs (g .s)) (h .is) ∙ signed-size (negative (x .m)) (f .d + f .b)
 
-      least-size : Carry β p (negative (x .m)) (f .d + f .b) q (rounded β p x) → natAbs (rounded β p x .s) ≡ β ^ (p - 1)
+      least-size : Carry β p (negative (x .m)) (f .d + f .b) q (rounded β p x)
+          → natAbs (rounded β p x .s) ≡ β ^ (p - 1)
       least-size h = ap (λ (g : Figure). natAbs (g .s)) (h .is) ∙ signed-size (negative (x .m)) (β ^ (p - 1))
 
       whole : Carry β p (negative (x .m)) (f .d + f .b) q (rounded β p x) → f .d + f .b ≡ β ^ p

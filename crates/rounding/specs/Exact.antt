@@ -1,6 +1,6 @@
 -- Exact numbers m × β^e, and how two of them are added and compared: counted in units of one power of β.
-use Prim.Native.Nat.{ℕ, _*_, _^_}
-use lib.IntN.{ℤ, pos, _+ℤ_, _-ℤ_, _*ℤ_, negℤ, natAbs}
+use Prim.Native.Nat.{ℕ, _^_}
+use lib.IntN.{ℤ, pos, _+ℤ_, _-ℤ_, _*ℤ_, natAbs}
 use Rattle.std.specs.Numbers.{minZ}
 use Rattle.rounding.specs.declared.Figure.{Figure}
 

@@ -41,9 +41,11 @@ fn steps<A: BinaryArithmetic>(a: Figure, b: Figure, c: Figure, d: Figure) -> Res
 // products does not change it.
 fn answer_is_near<A: BinaryArithmetic>(a: Figure, b: Figure, c: Figure, d: Figure)
     ensures answer { λ _. ⌜ (Accepted (A·Kind .beta) (A·Kind .prec) a b c d
-        → symmetricSteps (A·Kind .beta) (A·Kind .prec) a b c d ≡ Ok (symmetric (A·Kind .beta) (A·Kind .prec) a b c d)) ⌝ }
+        → symmetricSteps (A·Kind .beta) (A·Kind .prec) a b c d
+        ≡ Ok (symmetric (A·Kind .beta) (A·Kind .prec) a b c d)) ⌝ }
     ensures within { λ _. ⌜ (Accepted (A·Kind .beta) (A·Kind .prec) a b c d
-        → Within (A·Kind .beta) (limitNum (A·Kind .beta ^ (A·Kind .prec - 1))) (limitDen (A·Kind .beta ^ (A·Kind .prec - 1)))
+        → Within (A·Kind .beta) (limitNum (A·Kind .beta ^ (A·Kind .prec - 1)))
+        (limitDen (A·Kind .beta ^ (A·Kind .prec - 1)))
         (value (symmetric (A·Kind .beta) (A·Kind .prec) a b c d)) (exactSum (A·Kind .beta) a b c d)) ⌝ }
     ensures exchanged { λ _. ⌜ symmetric (A·Kind .beta) (A·Kind .prec) a b c d
         ≡ symmetric (A·Kind .beta) (A·Kind .prec) c d a b ⌝ }

@@ -1,7 +1,7 @@
 -- Powers of a radix: positive, ordered as their exponents are, even where the radix is.
 use mathlib.Core.Path.{_≡_, sym, ap, _∙_}
 use mathlib.Core.Logic.{inl, inr}
-use Prim.Native.Nat.{ℕ, zero, suc, _+_, _*_, _-_, _/_, _%_, _^_, _≤_, _<_}
+use Prim.Native.Nat.{ℕ, suc, _+_, _*_, _-_, _/_, _%_, _^_, _≤_, _<_}
 use native.Mathlib.Nat.{one-le-pow, pow-le-pow-right, pow-le-pow-left, pow-suc, pow-zero, mul-comm, mul-one}
 use native.Mathlib.Omega.{arith}
 use lib.Pow.{pow-add}

@@ -6,12 +6,6 @@ use native.Mathlib.Nat.{mul-le-mul-right}
 use native.Mathlib.Omega.{arith}
 use Rattle.std.proofs.shelf.Tests.{cases-lt}
 
-pub cancel-lt : (a b c : ℕ) → a * c < b * c → a < b
-cancel-lt a b c h = elim (cases-lt a b) [
-  | inl l ↦ l
-  | inr l ↦ absurd (omega (arith, mul-le-mul-right c l))
-]
-
 pub cancel-le : (a b c : ℕ) → 0 < c → a * c ≤ b * c → a ≤ b
 cancel-le a b c some h = elim (cases-lt b a) [
   | inr l ↦ l
