@@ -1,1 +1,1 @@
--- No lemmas are shared.
+mod Outcomes
