@@ -11,6 +11,7 @@ use borrow.Author.Differences.{ints}
 use Rattle.std.specs.Numbers.{minZ}
 use Rattle.std.proofs.shelf.Signed.{clamps}
 use Rattle.std.proofs.shelf.Tests.{cases-lt}
+use Rattle.whole.proofs.Comparisons.{≤ℤ-trans}
 use Rattle.whole.proofs.Integers.{natAbs-mul}
 use Rattle.whole.proofs.Powers.{power-pos, power-split}
 use Rattle.whole.proofs.Quotients.{cancel-le}
@@ -173,7 +174,7 @@ module _ (β p : ℕ) (kind : IsKind β p) (a b c d : Figure) (accepted : Accept
   kahan-places k kr kx ku = elim (cases-lt 0 (natAbs (x .m))) [
     | inr none ↦ (let z : distance β k (value (kahan β p a b c d)) x ≤ 0 = exact-zero k kr kx none in omega arith)
     | inl full ↦ coarser β (β + 1) 2 (value (kahan β p a b c d)) x (ulp β p x) k l two (f .0) kr kx ku
-        (placed l (f .1) (chain l k (x .e) (f .0) kx) (chain l k (ulp β p x .e) (f .0) ku) full)
+        (placed l (f .1) (≤ℤ-trans l k (x .e) (f .0) kx) (≤ℤ-trans l k (ulp β p x .e) (f .0) ku) full)
   ]
     where
       l : ℤ
@@ -181,9 +182,6 @@ module _ (β p : ℕ) (kind : IsKind β p) (a b c d : Figure) (accepted : Accept
 
       f : (minZ k (negℤ (pos 500)) ≤ℤ k) × (minZ k (negℤ (pos 500)) ≤ℤ negℤ (pos 500))
       f = finest k
-
-      chain : (x y z : ℤ) → x ≤ℤ y → y ≤ℤ z → x ≤ℤ z
-      chain x y z g h = omega (arith, ints)
 
 -- exchanging the two products changes no exact sum
 plus-swap : (β : ℕ) (x y : Exact) → plus β x y ≡ plus β y x

@@ -3,12 +3,13 @@
 use mathlib.Core.Path.{_≡_, refl, sym, ap, ap₂, _∙_, subst}
 use mathlib.Core.Logic.{_⊎_, inl, inr}
 use Prim.Native.Nat.{ℕ, zero, suc, _+_, _*_, _%_, _^_, _≤_, _<_, _∣_}
-use native.Mathlib.Nat.{mul-le-mul-right, mul-le-mul-left, mul-le-mul, mul-comm, pow-suc, pow-zero}
+use native.Mathlib.Nat.{mul-le-mul-right, mul-le-mul-left, mul-le-mul, pow-zero}
 use native.Mathlib.Nat.{dvd-trans, dvd-mul-left, dvd-zero, one-dvd, dvd-add-iff-right, le-of-dvd}
 use native.Mathlib.Omega.{arith}
 use Rattle.std.proofs.shelf.Tests.{cases-lt}
+use Rattle.whole.proofs.Comparisons.{order}
 use Rattle.whole.proofs.Distances.{gap}
-use Rattle.whole.proofs.Powers.{power-pos, power-le}
+use Rattle.whole.proofs.Powers.{power-pos, power-le, power-next}
 use Rattle.rounding.specs.Rounding.{raise}
 use Rattle.rounding.proofs.Places.{raise-less, raise-more, raise-tie, raise-few}
 use Rattle.bounds.proofs.Divisors.{divides-power}
@@ -30,16 +31,7 @@ pub record Cut (β B t v : ℕ) : Type 0 where
 abbrev pub Rounds : (β B t v : ℕ) → Type 0
 Rounds β B t v = ((t < β * B) × (v ≡ t)) ⊎ Cut β B t v
 
-order : (a b : ℕ) → (a < b) ⊎ ((a ≡ b) ⊎ (b < a))
-order a b = elim (cases-lt a b) [
-  | inl h ↦ inl h
-  | inr h ↦ elim (cases-lt b a) [ inl g ↦ inr (inr g) | inr g ↦ inr (inl (omega arith)) ]
-]
-
 module _ (β B : ℕ) (two : 2 ≤ β) (one : 1 ≤ B) where
-  pub unit-is : (k : ℕ) → β ^ suc k ≡ β * β ^ k
-  unit-is k = pow-suc β k ∙ mul-comm (β ^ k) β
-
   unit-pos : (k : ℕ) → 1 ≤ β ^ k
   unit-pos k = power-pos β k two
 
@@ -52,7 +44,7 @@ module _ (β B : ℕ) (two : 2 ≤ β) (one : 1 ≤ B) where
     | inl g ↦ g
     | inr g ↦ absurd (
         let m : B * (β * β ^ b) ≤ B * β ^ suc a =
-        mul-le-mul-left B (omega (arith, unit-is b, unit-le (suc b) (suc a) (omega arith))) in
+        mul-le-mul-left B (omega (arith, power-next β b, unit-le (suc b) (suc a) (omega arith))) in
         omega arith)
   ]
 
@@ -62,12 +54,12 @@ module _ (β B : ℕ) (two : 2 ≤ β) (one : 1 ≤ B) where
     | inl g ↦ absurd (
         let W : ℕ = B * (β * β ^ b) in
         let m : B * (β * β ^ suc b) ≤ B * β ^ suc a =
-        mul-le-mul-left B (omega (arith, unit-is (suc b), unit-le (suc (suc b)) (suc a) (omega arith))) in
+        mul-le-mul-left B (omega (arith, power-next β (suc b), unit-le (suc (suc b)) (suc a) (omega arith))) in
         let pair : 2 * 1 ≤ β * β ^ b = mul-le-mul two (unit-pos b) in
         let some : 1 ≤ β * β ^ b = omega arith in
         let full : 1 * 1 ≤ B * (β * β ^ b) = mul-le-mul one some in
         let double : 2 * W ≤ β * W = mul-le-mul-right W two in
-        omega (arith, ap (λ (x : ℕ). B * (β * x)) (unit-is b)))
+        omega (arith, ap (λ (x : ℕ). B * (β * x)) (power-next β b)))
   ]
 
   module _ (t v : ℕ) (c : Cut β B t v) where
@@ -140,7 +132,7 @@ module _ (β B : ℕ) (two : 2 ≤ β) (one : 1 ≤ B) where
     at-edge t j c e h =
         let V : ℕ = β ^ suc (c .k) in
         let b : β * B * β ^ j ≡ B * V = ap (λ (x : ℕ). β * B * β ^ x) (sym e)
-        ∙ omega (arith, ap (λ (x : ℕ). B * x) (unit-is (c .k))) in
+        ∙ omega (arith, ap (λ (x : ℕ). B * x) (power-next β (c .k))) in
         let m : B * V ≤ c .n * V = mul-le-mul-right V (c .n-lo) in
         omega (arith, c .is)
 
@@ -182,7 +174,7 @@ module _ (β B : ℕ) (two : 2 ≤ β) (one : 1 ≤ B) where
 
     -- what is kept lies below every cut
     kept-below : (k : ℕ) → β * B ≤ B * β ^ suc k
-    kept-below k = omega (arith, mul-le-mul-left (β * B) (unit-pos k), ap (λ (x : ℕ). B * x) (unit-is k))
+    kept-below k = omega (arith, mul-le-mul-left (β * B) (unit-pos k), ap (λ (x : ℕ). B * x) (power-next β k))
 
     -- two cuts at one unit
     same-unit : (a b V : ℕ) → a ≤ b → (c : Cut β B a (rn a)) (e : Cut β B b (rn b)) → β ^ suc (c .k) ≡ V
@@ -261,7 +253,7 @@ module _ (β B : ℕ) (two : 2 ≤ β) (one : 1 ≤ B) where
               | inl g ↦
                   let m : β * B * β ^ suc (c .k) ≤ β * B * β ^ e .k =
                   mul-le-mul-left (β * B) (unit-le (suc (c .k)) (e .k) g) in
-                  omega (arith, v-high a (rn a) c, v-low b (rn b) e, ap (λ (x : ℕ). B * x) (unit-is (e .k)))
+                  omega (arith, v-high a (rn a) c, v-low b (rn b) e, ap (λ (x : ℕ). B * x) (power-next β (e .k)))
               | inr g ↦ same-unit a b (β ^ suc (c .k)) h c e refl
                   (ap (λ (x : ℕ). β ^ suc x) (equal (c .k) (e .k) kk g))
             ]

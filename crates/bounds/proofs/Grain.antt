@@ -7,17 +7,17 @@ use native.Mathlib.Omega.{arith}
 use lib.IntN.{ℤ, _+ℤ_, _-ℤ_, natAbs}
 use borrow.Author.Differences.{ints}
 use Rattle.std.proofs.shelf.Tests.{cases-lt}
-use Rattle.whole.proofs.Powers.{power-le, power-order, power-parts}
+use Rattle.whole.proofs.Powers.{power-le, power-order, power-parts, power-next}
 use Rattle.bounds.proofs.Divisors.{divides-sum, divides-power}
 use Rattle.bounds.proofs.Laws.{Ground, Laws}
 use Rattle.bounds.proofs.Cases.{fine-grain}
-use Rattle.bounds.proofs.Steps.{unit-is, no-error}
+use Rattle.bounds.proofs.Steps.{no-error}
 use Rattle.bounds.proofs.Products.{Parts}
 
 module _ (β B : ℕ) (ground : Ground β B) (rn : ℤ → ℤ) (law : Laws β B rn) where
   -- β B is the power after B
   pub top-power : β * B ≡ β ^ suc (ground .q)
-  top-power = ap (λ (n : ℕ). β * n) (ground .power) ∙ sym (unit-is β B ground rn law (ground .q))
+  top-power = ap (λ (n : ℕ). β * n) (ground .power) ∙ sym (power-next β (ground .q))
 
   -- the product with the larger unit first
   pub grain : (X Y : ℤ) (i j : ℕ) (a : Parts β B ground rn law X i) (b : Parts β B ground rn law Y j) → b .k ≤ a .k
@@ -37,7 +37,7 @@ module _ (β B : ℕ) (ground : Ground β B) (rn : ℤ → ℤ) (law : Laws β B
         let gw : β * β ^ j ≤ W = omega (
           arith,
           power-le β (suc j) (a .k - suc q) (ground .two) (omega arith),
-          unit-is β B ground rn law j,
+          power-next β j,
         ) in
         let xb : B * (ground .c * W + W) ≤ natAbs X = omega (
           arith,

@@ -8,11 +8,11 @@ use lib.IntN.{ℤ, pos, negsuc, _+ℤ_, _-ℤ_, negℤ, natAbs}
 use borrow.Author.Differences.{ints}
 use Rattle.std.proofs.shelf.Tests.{cases-lt}
 use Rattle.whole.proofs.Integers.{natAbs-neg}
-use Rattle.whole.proofs.Powers.{power-pos, power-le, power-parts}
+use Rattle.whole.proofs.Powers.{power-pos, power-le, power-parts, power-next}
 use Rattle.bounds.proofs.Divisors.{divides-sum, divides-power}
 use Rattle.bounds.proofs.Laws.{Ground, Coarse, Laws}
 use Rattle.bounds.proofs.Cases.{Shape, from, under, below-exact, fine-grain}
-use Rattle.bounds.proofs.Steps.{unit-is, last-of, Close, near-close, no-error, exact-both, flip-close}
+use Rattle.bounds.proofs.Steps.{last-of, Close, near-close, no-error, exact-both, flip-close}
 use Rattle.bounds.proofs.Steps.{flip-coarse, r-half, Shaped, shaped}
 use Rattle.bounds.proofs.Products.{Parts}
 use Rattle.bounds.proofs.Grain.{top-power}
@@ -32,7 +32,7 @@ module _ (β B : ℕ) (ground : Ground β B) (rn : ℤ → ℤ) (law : Laws β B
   Situation P E = (rn P ≡ P) ⊎ ((co : Coarse β B P (rn P)) × (Small (co .k) E ⊎ Far (co .k) (P +ℤ E)))
 
   pub half-unit : (k : ℕ) → 2 * (ground .h * β ^ k) ≡ β ^ suc k
-  half-unit k = sym (unit-is β B ground rn law k ∙ ap (λ (n : ℕ). n * β ^ k) (ground .even) ∙ omega arith)
+  half-unit k = sym (power-next β k ∙ ap (λ (n : ℕ). n * β ^ k) (ground .even) ∙ omega arith)
 
   -- X is a multiple of the grain β^i, at most c c grains; Y a product
   pub situation : (X Y : ℤ) (i j : ℕ) → β ^ i ∣ natAbs X → natAbs X ≤ ground .c * ground .c * β ^ i
@@ -89,7 +89,7 @@ module _ (β B : ℕ) (ground : Ground β B) (rn : ℤ → ℤ) (law : Laws β B
             w .error-half,
             K-power (suc (co .k)),
             power-le β (suc (w .k)) (q + suc (co .k)) (ground .two) l,
-            unit-is β B ground rn law (w .k),
+            power-next β (w .k),
             mul-le-mul-right (β ^ w .k) (ground .two),
           ))
           | inr l ↦ inr (dvd-trans (β ^ co .k) (divides-power β (co .k) j (grain-above co l)) (w .error-grain))
@@ -110,7 +110,7 @@ module _ (β B : ℕ) (ground : Ground β B) (rn : ℤ → ℤ) (law : Laws β B
                 omega (
                   arith,
                   w .unit-le,
-                  unit-is β B ground rn law (suc q + j),
+                  power-next β (suc q + j),
                   power-pos β (suc q + j) (ground .two),
                 ))
           ]
@@ -125,10 +125,10 @@ module _ (β B : ℕ) (ground : Ground β B) (rn : ℤ → ℤ) (law : Laws β B
             | inr n ↦ absurd (omega (arith, few co i n))
           ] in
           let gw : β * β ^ i ≤ V =
-          omega (arith, unit-is β B ground rn law i, power-le β (suc i) (suc k) (ground .two) finer) in
+          omega (arith, power-next β i, power-le β (suc i) (suc k) (ground .two) finer) in
           let big : β * (B * V) ≤ β ^ w .k = omega (
             arith,
-            unit-is β B ground rn law (q + suc k),
+            power-next β (q + suc k),
             ap (λ (n : ℕ). β * n) (K-power (suc k)),
             power-le β (suc (q + suc k)) (w .k) (ground .two) far,
           ) in
@@ -225,7 +225,7 @@ module _ (β B : ℕ) (ground : Ground β B) (rn : ℤ → ℤ) (law : Laws β B
           (subst (λ (z : ℤ). β ^ co .k ∣ natAbs z) (s .y-is) (divides-sum (β ^ co .k) (rn (pos P)) (rn E)
           (dvd-trans (β ^ co .k) (divides-power β (co .k) (suc (co .k)) (omega arith)) (co .multiple))
           (subst (λ (n : ℕ). β ^ co .k ∣ n) (sym E-size) m)))
-          (omega (arith, c, ap (λ (n : ℕ). B * n) (unit-is β B ground rn law (co .k)))))
+          (omega (arith, c, ap (λ (n : ℕ). B * n) (power-next β (co .k)))))
 
   coarse-close : (P E : ℤ) (co : Coarse β B P (rn P)) → rn E ≡ E → Small (co .k) E → Close β B ground rn law P E
   coarse-close (pos P) E co kept small = small-close P E co kept small

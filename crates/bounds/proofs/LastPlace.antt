@@ -8,9 +8,9 @@ use lib.IntN.{ℤ, pos, negsuc, _+ℤ_, _-ℤ_, negℤ, natAbs}
 use lib.Signed.{_≤ℤ_}
 use borrow.Author.Differences.{ints}
 use Rattle.std.proofs.shelf.Tests.{cases-lt}
-use Rattle.whole.proofs.Powers.{power-le}
+use Rattle.whole.proofs.Powers.{power-le, power-next}
 use Rattle.bounds.proofs.Laws.{Ground, Coarse, Laws}
-use Rattle.bounds.proofs.Steps.{unit-is, not-under}
+use Rattle.bounds.proofs.Steps.{not-under}
 use Rattle.bounds.proofs.Kahan.{Situation, half-unit, within-half}
 
 module _ (β B : ℕ) (ground : Ground β B) (rn : ℤ → ℤ) (law : Laws β B rn) where
@@ -21,7 +21,7 @@ module _ (β B : ℕ) (ground : Ground β B) (rn : ℤ → ℤ) (law : Laws β B
     | inr a ↦ (let hf : 2 * natAbs (rn (pos y) -ℤ pos y) ≤ β ^ v = law .half (pos y) v a in omega (arith, ints))
     | inl a ↦
         let K : ℕ = B * β ^ suc v in
-        let KB : β * B * β ^ v ≡ K = omega (arith, ap (λ (n : ℕ). B * n) (unit-is β B ground rn law v)) in
+        let KB : β * B * β ^ v ≡ K = omega (arith, ap (λ (n : ℕ). B * n) (power-next β v)) in
         let lo : pos K ≤ℤ rn (pos y) = not-under β B ground rn law y v (omega arith) in
         let hi : rn (pos y) ≤ℤ pos K = law .middle y (suc v) B (omega arith)
         (omega (arith, ground .eight, mul-le-mul-right B (ground .two))) (omega (arith, ints)) in
@@ -74,7 +74,7 @@ module _ (β B : ℕ) (ground : Ground β B) (rn : ℤ → ℤ) (law : Laws β B
       unit = elim (cases-lt (suc v) (suc (co .k))) [
         | inr a ↦ power-le β (suc (co .k)) (suc v) (ground .two) a
         | inl a ↦ absurd (clash (β ^ v) (β ^ suc v) (β ^ suc (suc v)) (β ^ suc (co .k)) (natAbs (P +ℤ E))
-            (unit-is β B ground rn law v) (unit-is β B ground rn law (suc v))
+            (power-next β v) (power-next β (suc v))
             (power-le β (suc (suc v)) (suc (co .k)) (ground .two) a) big l)
       ]
 

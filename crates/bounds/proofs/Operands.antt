@@ -5,12 +5,12 @@ use mathlib.Core.Logic.{inl, inr}
 use Prim.Native.Nat.{ℕ, zero, suc, _-_, _^_, _≤_, _<_}
 use native.Mathlib.Omega.{arith}
 use lib.Dec.{leb, ltb, eqb}
-use lib.IntN.{ℤ, pos, natAbs}
-use borrow.Author.Differences.{ints}
+use lib.IntN.{natAbs}
 use Rattle.std.proofs.shelf.Ways.{tells}
 use Rattle.std.specs.declared.option.Option.{Option}
 use Rattle.std.specs.declared.option.Option.the-variants.{Some, None}
 use Rattle.std.specs.declared.result.Result.the-variants.{Ok}
+use Rattle.whole.proofs.Comparisons.{size-zero}
 use Rattle.rounding.specs.declared.Figure.{Figure}
 use Rattle.rounding.specs.declared.Refusal.the-variants.{NoFigure, ResultRange}
 use Rattle.rounding.specs.Exact.{Exact, value, product, plus}
@@ -29,10 +29,7 @@ normal-of β p f t = go (natAbs (f .s)) (natAbs (f .q)) refl refl t
   where
     go : (s q : ℕ) → natAbs (f .s) ≡ s → natAbs (f .q) ≡ q → Test β p s q ≡ true → Normal β p f
     go zero q es eq h =
-        let z : q ≡ 0 = grind (arith, tells) in inl (nil (f .s) es, nil (f .q) (eq ∙ z))
-      where
-        nil : (m : ℤ) → natAbs m ≡ 0 → m ≡ pos 0
-        nil m e = omega (arith, ints)
+        let z : q ≡ 0 = grind (arith, tells) in inl (size-zero (f .s) es, size-zero (f .q) (eq ∙ z))
     go (suc s) q es eq h =
         let lo : β ^ (p - 1) ≤ suc s = grind (arith, tells) in
         let hi : suc s < β ^ p = grind (arith, tells) in

@@ -10,9 +10,10 @@ use lib.Pow.{pow-add}
 use borrow.Author.Differences.{ints}
 use Rattle.std.proofs.shelf.Tests.{cases-lt}
 use Rattle.whole.proofs.Integers.{natAbs-neg}
+use Rattle.whole.proofs.Powers.{power-next}
 use Rattle.bounds.proofs.Divisors.{divides-sum, divides-power}
 use Rattle.bounds.proofs.Laws.{Ground, Laws}
-use Rattle.bounds.proofs.Steps.{unit-is, zero-fixed}
+use Rattle.bounds.proofs.Steps.{zero-fixed}
 
 module _ (β B : ℕ) (ground : Ground β B) where
   -- a product of two significands in the grain β^i; zero is none
@@ -107,7 +108,7 @@ module _ (β B : ℕ) (ground : Ground β B) where
         let g : ℕ = β ^ i in
         let u : β ^ (q + i) ≡ B * g = pow-add β q i ∙ ap (λ (n : ℕ). n * g) (sym (ground .power)) in
         let v : β ^ suc (q + i) ≡ β * (B * g) =
-        unit-is β B ground rn law (q + i) ∙ ap (λ (n : ℕ). β * n) u in
+        power-next β (q + i) ∙ ap (λ (n : ℕ). β * n) u in
         elim (cases-lt (β * B * β ^ (q + i)) (natAbs X)) [
           | inr a ↦ parts-at X i (q + i) p (omega (arith, p .least, ap (λ (n : ℕ). B * n) u)) a (omega arith)
               (omega (arith, mul-le-mul-right (B * g) two))

@@ -2,12 +2,13 @@
 -- within 1/B of P + E, from the laws of rounding alone.
 use mathlib.Core.Path.{_≡_, sym, ap, ap₂, _∙_, subst}
 use Prim.Native.Nat.{ℕ, suc, _+_, _*_, _^_, _≤_, _<_, _∣_}
-use native.Mathlib.Nat.{mul-le-mul-right, dvd-trans, dvd-mul-left, dvd-zero, pow-suc, mul-comm}
+use native.Mathlib.Nat.{mul-le-mul-right, dvd-trans, dvd-mul-left, dvd-zero}
 use native.Mathlib.Omega.{arith}
 use lib.IntN.{ℤ, pos, negsuc, _+ℤ_, _-ℤ_, negℤ, natAbs}
 use lib.Signed.{_≤ℤ_, _<ℤ_}
 use borrow.Author.Differences.{ints}
 use Rattle.whole.proofs.Distances.{gap}
+use Rattle.whole.proofs.Powers.{power-next}
 use Rattle.whole.proofs.Integers.{natAbs-neg}
 use Rattle.bounds.proofs.Divisors.{divides-sum, divides-power}
 use Rattle.bounds.proofs.Laws.{Ground, Coarse, Laws}
@@ -25,9 +26,6 @@ neg-gap s x y = omega (arith, ints)
 module _ (β B : ℕ) (ground : Ground β B) (rn : ℤ → ℤ) (law : Laws β B rn) where
   two : 2 ≤ β
   two = ground .two
-
-  pub unit-is : (k : ℕ) → β ^ suc k ≡ β * β ^ k
-  unit-is k = pow-suc β k ∙ mul-comm (β ^ k) β
 
   pub V-small : (k : ℕ) → 8 * β ^ k ≤ B * β ^ k
   V-small k = mul-le-mul-right (β ^ k) (ground .eight)
@@ -68,8 +66,8 @@ module _ (β B : ℕ) (ground : Ground β B) (rn : ℤ → ℤ) (law : Laws β B
             omega (arith, ints);
         quarter = λ h.
             let a : 2 * natAbs (rn (pos y) -ℤ pos y) ≤ β ^ k =
-            law .half (pos y) k (omega (arith, ap (λ (n : ℕ). B * n) (unit-is k))) in
-            let b : 2 * β ^ k ≤ V = omega (arith, unit-is k, mul-le-mul-right (β ^ k) two) in
+            law .half (pos y) k (omega (arith, ap (λ (n : ℕ). B * n) (power-next β k))) in
+            let b : 2 * β ^ k ≤ V = omega (arith, power-next β k, mul-le-mul-right (β ^ k) two) in
             omega (arith, off);
       }
 
@@ -81,7 +79,7 @@ module _ (β B : ℕ) (ground : Ground β B) (rn : ℤ → ℤ) (law : Laws β B
       let V : ℕ = β ^ suc k in
       let K : ℕ = B * V in
       let H : ℕ = ground .h * β ^ k in
-      let VH : V ≡ H + H = unit-is k ∙ ap (λ (n : ℕ). n * β ^ k) (ground .even) ∙ omega arith in
+      let VH : V ≡ H + H = power-next β k ∙ ap (λ (n : ℕ). n * β ^ k) (ground .even) ∙ omega arith in
       let i : rn (pos P) ≡ pos (natAbs (rn (pos P))) = kept-sign P in
       let M : ℤ = pos K +ℤ pos H -ℤ rn (pos P) in
       let hf : 2 * natAbs (rn (pos P) -ℤ pos P) ≤ V = law .half (pos P) (suc k) (omega arith) in
@@ -94,7 +92,7 @@ module _ (β B : ℕ) (ground : Ground β B) (rn : ℤ → ℤ) (law : Laws β B
       let d3 : β ^ k ∣ natAbs (negℤ (rn (pos P))) =
       subst (λ (m : ℕ). β ^ k ∣ m) (sym (natAbs-neg (rn (pos P)))) (dvd-trans (β ^ k) finer multiple) in
       let d4 : β ^ k ∣ natAbs M = divides-sum (β ^ k) (pos K +ℤ pos H) (negℤ (rn (pos P))) d2 d3 in
-      let Mk : natAbs M ≤ β * B * β ^ k = omega (arith, ints, ap (λ (m : ℕ). B * m) (unit-is k)) in
+      let Mk : natAbs M ≤ β * B * β ^ k = omega (arith, ints, ap (λ (m : ℕ). B * m) (power-next β k)) in
       let EM : E ≤ℤ M = omega (arith, ints) in
       subst (λ (z : ℤ). rn E ≤ℤ z) (law .fixed M k d4 Mk) (law .ordered E M EM)
 

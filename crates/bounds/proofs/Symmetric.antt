@@ -10,11 +10,11 @@ use borrow.Author.Differences.{ints}
 use Rattle.std.proofs.shelf.Tests.{cases-lt}
 use Rattle.whole.proofs.Distances.{gap}
 use Rattle.whole.proofs.Integers.{natAbs-neg}
-use Rattle.whole.proofs.Powers.{power-pos, power-le}
+use Rattle.whole.proofs.Powers.{power-pos, power-le, power-next}
 use Rattle.bounds.proofs.Divisors.{divides-sum, divides-power}
 use Rattle.bounds.proofs.Laws.{Ground, Coarse, Laws}
 use Rattle.bounds.proofs.Cases.{from, under, below-near}
-use Rattle.bounds.proofs.Steps.{unit-is, V-small, last-of, key, Close, near-close, exact-first, flip-close}
+use Rattle.bounds.proofs.Steps.{V-small, last-of, key, Close, near-close, exact-first, flip-close}
 use Rattle.bounds.proofs.Steps.{flip-coarse, r-half, Shaped, shaped}
 use Rattle.bounds.proofs.Products.{Parts}
 use Rattle.bounds.proofs.Grain.{grain}
@@ -74,7 +74,7 @@ module _ (β B : ℕ) (ground : Ground β B) (rn : ℤ → ℤ) (law : Laws β B
       y-top y b e =
           let H : ℕ = ground .h * β ^ co .k in
           let VH : β ^ suc (co .k) ≡ H + H =
-          unit-is β B ground rn law (co .k) ∙ ap (λ (n : ℕ). n * β ^ co .k) (ground .even) ∙ omega arith in
+          power-next β (co .k) ∙ ap (λ (n : ℕ). n * β ^ co .k) (ground .even) ∙ omega arith in
           let top : rn E ≤ℤ (pos K +ℤ pos H -ℤ rn (pos P)) = key β B ground rn law P (co .k) E (co .lo) (co .hi)
           (co .multiple) (omega (arith, V-small β B ground rn law (suc (co .k)))) (x-below (s .x) (s .x-is) b) in
           let yt : y ≤ K + H = sum-top (rn (pos P)) (rn E) K H y e top in
@@ -178,7 +178,7 @@ module _ (β B : ℕ) (ground : Ground β B) (rn : ℤ → ℤ) (law : Laws β B
         m = suc (co .k)
 
         next : (n : ℕ) → β ^ suc n ≡ β * β ^ n
-        next n = unit-is β B ground rn law n
+        next n = power-next β n
 
         finer : b .k < m
         finer = elim (cases-lt (b .k) m) [

@@ -7,8 +7,8 @@ use native.Mathlib.Nat.{mul-le-mul, div-add-mod', mod-lt, pow-zero, mul-one, div
 use native.Mathlib.Omega.{arith}
 use lib.IntN.{ℤ, pos, _-ℤ_, _*ℤ_, natAbs, zero-*ℤ}
 use lib.Signed.{_≤ℤ_}
-use borrow.Author.Differences.{ints}
 use Rattle.std.proofs.shelf.Tests.{cases-lt}
+use Rattle.whole.proofs.Comparisons.{size-zero}
 use Rattle.whole.proofs.Powers.{power-pos, power-le, power-order, power-split, power-parts, power-even, power-one}
 use Rattle.whole.proofs.Quotients.{same-quotient}
 use Rattle.rounding.specs.declared.Figure.{Figure}
@@ -141,12 +141,9 @@ module _ (β p : ℕ) (even : β % 2 ≡ 0) (two : 2 ≤ β) (some : 2 ≤ p) wh
         ∙ ap (nearZ β p) (sym (own-sign (x .m) (β ^ natAbs (x .e -ℤ k)))))
     | inr none ↦ (
         let z : natAbs (x .m) ≡ 0 = omega arith in
-        let m : x .m ≡ pos 0 = nil (x .m) z in
+        let m : x .m ≡ pos 0 = size-zero (x .m) z in
         let u : units β k x ≡ pos 0 = ap (λ (n : ℤ). n *ℤ pos (β ^ natAbs (x .e -ℤ k))) m
         ∙ zero-*ℤ (pos (β ^ natAbs (x .e -ℤ k))) in
         ap (λ (f : Figure). units β k (value f)) (rounded-zero β p x z) ∙ zero-*ℤ (pos (β ^ natAbs (pos 0 -ℤ k)))
         ∙ sym (ap pos (near-small 0 (power-pos β p two))) ∙ ap (nearZ β p) (sym u))
   ]
-    where
-      nil : (m : ℤ) → natAbs m ≡ 0 → m ≡ pos 0
-      nil m h = omega (arith, ints)

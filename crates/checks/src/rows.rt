@@ -23,7 +23,7 @@ pub struct Triple {
     pub answer: (i32, i32),
 }
 
-// Four operands of a method with the answers for the sum ab + cd, for the determinant ad - bc, and for the real and the
+// Four operands of a method with the answers for the sum ab + cd, the determinant ad - bc, and the real and the
 // imaginary part of the complex product (a + bi)(c + di).
 pub struct Four {
     pub a: (i32, i32),

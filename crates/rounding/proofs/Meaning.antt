@@ -10,6 +10,7 @@ use borrow.Author.Differences.{ints}
 use Rattle.std.specs.Numbers.{minZ}
 use Rattle.std.proofs.shelf.Signed.{clamps}
 use Rattle.std.proofs.shelf.Tests.{cases-lt}
+use Rattle.whole.proofs.Comparisons.{≤ℤ-trans, size-zero}
 use Rattle.whole.proofs.Distances.{gap}
 use Rattle.whole.proofs.Powers.{power-pos, power-split, power-even}
 use Rattle.whole.proofs.Quotients.{cancel-le}
@@ -27,17 +28,14 @@ use Rattle.rounding.proofs.Seen.{Seen, seen}
 pub lower : (a b : ℤ) → (minZ a b ≤ℤ a) × (minZ a b ≤ℤ b)
 lower a b = (omega (arith, ints, clamps), omega (arith, ints, clamps))
 
-chain : (a b c : ℤ) → a ≤ℤ b → b ≤ℤ c → a ≤ℤ c
-chain a b c h g = omega (arith, ints)
-
 common : (a b c : ℤ) → (k : ℤ) × ((k ≤ℤ a) × (k ≤ℤ b) × (k ≤ℤ c))
 common a b c =
     let ab = lower a b in
     let abc = lower (minZ a b) c in (
       minZ (minZ a b) c,
       (
-        chain (minZ (minZ a b) c) (minZ a b) a (abc .0) (ab .0),
-        chain (minZ (minZ a b) c) (minZ a b) b (abc .0) (ab .1),
+        ≤ℤ-trans (minZ (minZ a b) c) (minZ a b) a (abc .0) (ab .0),
+        ≤ℤ-trans (minZ (minZ a b) c) (minZ a b) b (abc .0) (ab .1),
         abc .1,
       ),
     )
@@ -181,7 +179,7 @@ module _ (β p : ℕ) (even : β % 2 ≡ 0) (two : 2 ≤ β) (some : 2 ≤ p) wh
     outcome g n k c e =
         let l = lower k (x .e -ℤ pos (p - 1)) in
         let m : ℤ = minZ k (x .e -ℤ pos (p - 1)) in
-        outcome-fine g n m (l .1) (chain m k (g .q) (l .0) (c .2))
+        outcome-fine g n m (l .1) (≤ℤ-trans m k (g .q) (l .0) (c .2))
         (distance-finer β m k (value (rounded β p x)) x (l .0) (c .1) (c .0)
         ∙ ap (λ (a : ℕ). a * β ^ natAbs (k -ℤ m)) e
         ∙ sym (distance-finer β m k (value g) x (l .0) (c .2) (c .0)))
@@ -254,12 +252,9 @@ pub rounds-to-nearest : Rounds-to-nearest
 rounds-to-nearest β p even two some x = elim (cases-lt 0 (natAbs (x .m))) [
   | inl full ↦ (full-nearest β p even two some x full, full-only β p even two some x full)
   | inr z ↦ (
-      let none : x .m ≡ pos 0 = nil (x .m) z in
+      let none : x .m ≡ pos 0 = size-zero (x .m) (omega arith) in
       let r : rounded β p x ≡ zeroFigure = rounded-zero β p x (omega arith) in (
         subst (Nearest β p x) (sym r) (zero-nearest β p even two some x none),
         λ f n. zero-only β p even two some x none f n ∙ sym r,
       ))
 ]
-  where
-    nil : (m : ℤ) → natAbs m ≤ 0 → m ≡ pos 0
-    nil m h = omega (arith, ints)

@@ -2,15 +2,14 @@
 use mathlib.Core.Path.{_≡_, sym, ap, ap₂, _∙_, subst}
 use mathlib.Core.Bool.{Bool, cond}
 use mathlib.Core.Logic.{_⊎_, inl, inr}
-use Prim.Native.Nat.{ℕ, _+_, _*_, _-_, _%_, _^_, _≤_, _<_}
-use native.Mathlib.Nat.{mul-le-mul-left, mul-le-mul-right}
+use Prim.Native.Nat.{ℕ, suc, _+_, _*_, _-_, _%_, _^_, _≤_, _<_}
+use native.Mathlib.Nat.{mul-le-mul-left, mul-le-mul-right, pow-suc}
 use native.Mathlib.Omega.{arith}
 use lib.Dec.{ltb}
 use Rattle.std.proofs.shelf.Tests.{cases-lt}
 use Rattle.std.proofs.shelf.Ways.{tells}
 use Rattle.whole.proofs.Powers.{power-le, power-split}
 use Rattle.whole.proofs.Quotients.{same-quotient}
-use native.Mathlib.Nat.{pow-suc}
 use Rattle.rounding.specs.Rounding.{raise}
 
 -- T = d V + w with B ≤ d < P, and T is rounded to d + b units
@@ -103,11 +102,8 @@ module _ (β p : ℕ) (two : 2 ≤ β) (some : 1 ≤ p) where
           omega (arith, mul-le-mul-left B l, ap (λ (m : ℕ). B * m) e, ap (λ (m : ℕ). m * I) f)
 
       clash : (i j : ℕ) → i < j → T < β ^ p * β ^ i → β ^ (p - 1) * β ^ j ≤ T → ⊥
-      clash i j h hi lo = step (β ^ (p - 1)) (β ^ i) (β ^ (i + 1)) (β ^ j) (β ^ p)
-          (next i) (power-le β (i + 1) j two (omega arith)) (power-split β p some) hi lo
-        where
-          next : (i : ℕ) → β ^ (i + 1) ≡ β ^ i * β
-          next i = ap (λ (n : ℕ). β ^ n) (omega arith) ∙ pow-suc β i
+      clash i j h hi lo = step (β ^ (p - 1)) (β ^ i) (β ^ suc i) (β ^ j) (β ^ p)
+          (pow-suc β i) (power-le β (suc i) j two h) (power-split β p some) hi lo
 
   -- a number has one place
   pub same-place : (T i j d w b e v c : ℕ) → Placed (β ^ (p - 1)) (β ^ p) (β ^ i) T d w b

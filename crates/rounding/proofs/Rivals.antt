@@ -2,10 +2,11 @@
 -- in a tie.
 use mathlib.Core.Path.{_≡_, sym, ap, _∙_}
 use mathlib.Core.Logic.{_⊎_, inl, inr}
-use Prim.Native.Nat.{ℕ, _+_, _*_, _-_, _%_, _^_, _≤_, _<_}
+use Prim.Native.Nat.{ℕ, suc, _+_, _*_, _-_, _%_, _^_, _≤_, _<_}
 use native.Mathlib.Nat.{mul-le-mul-right, mul-le-mul-left, mul-assoc, pow-suc, mul-lt-mul-of-pos-right}
 use native.Mathlib.Omega.{arith}
 use Rattle.std.proofs.shelf.Tests.{cases-lt}
+use Rattle.whole.proofs.Comparisons.{order}
 use Rattle.whole.proofs.Distances.{gap}
 use Rattle.whole.proofs.Powers.{power-pos, power-le, power-parts}
 use Rattle.whole.proofs.Quotients.{cancel-eq}
@@ -23,12 +24,6 @@ pub record Tie (V d b G : ℕ) : Type 0 where
   pub odd : m % 2 ≡ 1
   pub lo : d ≤ m
   pub hi : m ≤ d + 1
-
-order : (a b : ℕ) → (a < b) ⊎ ((a ≡ b) ⊎ (b < a))
-order a b = elim (cases-lt a b) [
-  | inl h ↦ inl h
-  | inr h ↦ elim (cases-lt b a) [ inl g ↦ inr (inr g) | inr g ↦ inr (inl (omega arith)) ]
-]
 
 module _ (B P V T d w b : ℕ) (some : 1 ≤ B) (place : Placed B P V T d w b) where
   -- which way the rounding went, and how far
@@ -159,12 +154,9 @@ module _ (B P V T d w b : ℕ) (some : 1 ≤ B) (place : Placed B P V T d w b) w
 module _ (β B P : ℕ) (two : 2 ≤ β) (some : 1 ≤ B) (PB : P ≡ β * B) where
   -- s < P units of a lower power lie below B units of the higher one
   below : (s i l : ℕ) → s < P → i < l → s * β ^ i < B * β ^ l
-  below s i l h g = go (β ^ i) (β ^ l) (β ^ (i + 1)) (power-pos β i two) (next i)
-      (power-le β (i + 1) l two (omega arith))
+  below s i l h g = go (β ^ i) (β ^ l) (β ^ suc i) (power-pos β i two) (pow-suc β i)
+      (power-le β (suc i) l two g)
     where
-      next : (i : ℕ) → β ^ (i + 1) ≡ β ^ i * β
-      next i = ap (λ (n : ℕ). β ^ n) (omega arith) ∙ pow-suc β i
-
       go : (I L J : ℕ) → 0 < I → J ≡ I * β → J ≤ L → s * I < B * L
       go I L J some e k =
           let a : s * I < P * I = mul-lt-mul-of-pos-right h some in

@@ -33,6 +33,9 @@ power-split β p some = ap (λ (n : ℕ). β ^ n) (there p some) ∙ pow-suc β 
     there : (p : ℕ) → 1 ≤ p → p ≡ suc (p - 1)
     there p h = omega arith
 
+pub power-next : (β k : ℕ) → β ^ suc k ≡ β * β ^ k
+power-next β k = pow-suc β k ∙ mul-comm (β ^ k) β
+
 -- a power taken in two parts
 pub power-parts : (β i j k : ℕ) → i + j ≡ k → β ^ k ≡ β ^ i * β ^ j
 power-parts β i j k e = ap (λ (n : ℕ). β ^ n) (sym e) ∙ pow-add β i j
