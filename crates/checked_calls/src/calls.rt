@@ -73,6 +73,7 @@ fn perform<M: Method>(method: &M, call: Call) -> Result<Figure, Refusal>
     }
 }
 
+// The same, with its answer kept shut: what the arrangements below choose is the method, not the call.
 fn performed<M: Method>(method: &M, call: Call) -> Result<Figure, Refusal>
     ensures { λ r. ⌜ coded r ≡ answered (Arith·Kind .beta) (Arith·Kind .prec)
         (M·Method .answer (now (method .entry))) call ⌝ }
@@ -91,6 +92,7 @@ pub fn answer_of(by: Arrangement, call: Call) -> Result<Figure, Refusal>
     }
 }
 
+// A complex product by any method, its answer kept shut.
 fn product_by<M: Method>(
     method: &M,
     a: Figure,

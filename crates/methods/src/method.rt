@@ -24,7 +24,7 @@ pub trait Method {
 
     ghost den: { Self → ℕ };
 
-    law some: { (m : Self) → 1 ≤ den m };
+    law positive: { (m : Self) → 1 ≤ den m };
 
     law limit: { (m : Self) → UpperLimit (Arith·Kind .beta ^ (Arith·Kind .prec - 1)) (num m) (den m) };
 

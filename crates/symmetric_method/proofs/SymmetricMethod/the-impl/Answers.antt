@@ -2,8 +2,8 @@
 use Rattle.bounds.proofs.Answers.{symmetric-figure, symmetric-range, symmetric-limit, symmetric-at-limit, limit-some}
 use Rattle.symmetric_method.proofs.SymmetricMethod.the-impl.Needs as need
 
-pub some-law : need.some-law
-some-law g m = limit-some _ _ (g .A·Kind·met .kind)
+pub positive-law : need.positive-law
+positive-law g m = limit-some _ _ (g .A·Kind·met .kind)
 
 pub limit-law : need.limit-law
 limit-law g m = symmetric-at-limit _
