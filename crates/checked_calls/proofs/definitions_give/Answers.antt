@@ -1,3 +1,4 @@
+-- The thirteen answers, computed from the definitions.
 use Rattle.checked_calls.proofs.Computed.{examples-hold}
 use Rattle.checked_calls.proofs.definitions_give.Needs as need
 

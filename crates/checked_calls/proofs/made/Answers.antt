@@ -1,3 +1,4 @@
+-- A call that was made shows the example of the same call.
 use mathlib.Core.Path.{refl, _∙_}
 use Rattle.checked_calls.proofs.made.Needs as need
 

@@ -1,3 +1,4 @@
+-- The theorem on rounding.
 use Rattle.rounding.proofs.Meaning.{rounds-to-nearest}
 use Rattle.checked_calls.proofs.rounding_is_nearest.Needs as need
 

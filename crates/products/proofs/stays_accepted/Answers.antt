@@ -1,3 +1,4 @@
+-- An accepted four stays accepted in another order and with an operand turned.
 use Rattle.bounds.proofs.Orders.{flipped-opposite, determinant-accepted, real-accepted, imaginary-accepted}
 use Rattle.products.proofs.stays_accepted.Needs as need
 

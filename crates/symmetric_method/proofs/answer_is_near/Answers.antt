@@ -1,3 +1,4 @@
+-- The theorems on the symmetric method.
 use Rattle.bounds.proofs.Answers.{symmetric-limit, symmetric-exchanged}
 use Rattle.bounds.proofs.Chains.{symmetric-steps}
 use Rattle.symmetric_method.proofs.answer_is_near.Needs as need

@@ -1,3 +1,4 @@
+-- The answer, opened once.
 use Rattle.checked_calls.specs.Calls.{answered}
 use Rattle.checked_calls.proofs.calls.performed.Needs as need
 

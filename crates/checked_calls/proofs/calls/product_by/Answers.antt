@@ -1,3 +1,4 @@
+-- The answer, opened once.
 use Rattle.checked_calls.specs.Calls.{productOf}
 use Rattle.checked_calls.proofs.calls.product_by.Needs as need
 

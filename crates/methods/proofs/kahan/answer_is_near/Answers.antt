@@ -1,3 +1,4 @@
+-- The theorems on Kahan's method.
 use Rattle.bounds.proofs.Answers.{kahan-within, kahan-places}
 use Rattle.bounds.proofs.Chains.{kahan-steps}
 use Rattle.rounding.proofs.LastPlaces.{ulp-is-last-place}
