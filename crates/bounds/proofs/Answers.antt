@@ -5,7 +5,7 @@ use mathlib.Core.Logic.{inl, inr}
 use Prim.Native.Nat.{ℕ, suc, _+_, _*_, _-_, _^_, _≤_, _<_}
 use native.Mathlib.Nat.{mul-le-mul, mul-le-mul-left, mul-le-mul-right, pow-suc}
 use native.Mathlib.Omega.{arith}
-use lib.IntN.{ℤ, pos, _+ℤ_, _-ℤ_, _*ℤ_, negℤ, natAbs, +ℤ-comm}
+use lib.IntN.{ℤ, pos, _+ℤ_, _-ℤ_, _*ℤ_, negℤ, natAbs}
 use lib.Signed.{_≤ℤ_}
 use borrow.Author.Differences.{ints}
 use Rattle.std.specs.Numbers.{minZ}
@@ -19,7 +19,7 @@ use Rattle.rounding.specs.declared.Figure.{Figure}
 use Rattle.rounding.specs.Exact.{Exact, value, product, units, plus, distance}
 use Rattle.rounding.specs.Errors.{Within, ulp, WithinPlaces}
 use Rattle.rounding.specs.Operations.{isFigure}
-use Rattle.rounding.proofs.Units.{units-finer, distance-finer}
+use Rattle.rounding.proofs.Units.{units-finer, distance-finer, plus-comm}
 use Rattle.rounding.proofs.LastPlaces.{units-one, ulp-is-last-place}
 use Rattle.kinds.specs.Kinds.{IsKind}
 use Rattle.kinds.proofs.Sizes.{radix-two, few-digits}
@@ -183,22 +183,13 @@ module _ (β p : ℕ) (kind : IsKind β p) (a b c d : Figure) (accepted : Accept
       f : (minZ k (negℤ (pos 500)) ≤ℤ k) × (minZ k (negℤ (pos 500)) ≤ℤ negℤ (pos 500))
       f = finest k
 
--- exchanging the two products changes no exact sum
-plus-swap : (β : ℕ) (x y : Exact) → plus β x y ≡ plus β y x
-plus-swap β x y =
-    ap (λ (k : ℤ). record { m = units β k x +ℤ units β k y; e = k }) (least (x .e) (y .e))
-    ∙ ap (λ (m : ℤ). record { m = m; e = minZ (y .e) (x .e) })
-    (+ℤ-comm (units β (minZ (y .e) (x .e)) x) (units β (minZ (y .e) (x .e)) y))
-  where
-    least : (e f : ℤ) → minZ e f ≡ minZ f e
-    least e f = omega (arith, ints, clamps)
-
+-- exchanging the two products changes neither exact sum
 pub symmetric-exchanged : (β p : ℕ) (a b c d : Figure) → symmetric β p a b c d ≡ symmetric β p c d a b
 unfolding symmetric
 symmetric-exchanged β p a b c d =
     ap₂ (λ (r e : Exact). rounded β p (plus β (value (rounded β p r)) (value (rounded β p e))))
-    (plus-swap β (value (roundedProduct β p a b)) (value (roundedProduct β p c d)))
-    (plus-swap β (value (productError β p a b)) (value (productError β p c d)))
+    (plus-comm β (value (roundedProduct β p a b)) (value (roundedProduct β p c d)))
+    (plus-comm β (value (productError β p a b)) (value (productError β p c d)))
 
 -- the allowances are within the limit
 pub kahan-limit : (B : ℕ) → UpperLimit B 1 B

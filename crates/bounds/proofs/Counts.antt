@@ -1,7 +1,7 @@
 -- The methods' steps, counted in fine units: they are the methods on whole numbers.
 use mathlib.Core.Path.{_≡_, sym, ap, ap₂, _∙_, subst}
 use mathlib.Core.Logic.{inl, inr}
-use Prim.Native.Nat.{ℕ, suc, _+_, _*_, _-_, _^_, _≤_, _<_, _∣_}
+use Prim.Native.Nat.{ℕ, _+_, _*_, _-_, _^_, _≤_, _<_, _∣_}
 use native.Mathlib.Nat.{mul-le-mul, mul-le-mul-right, dvd-mul-left}
 use native.Mathlib.Omega.{arith}
 use lib.IntN.{ℤ, pos, _+ℤ_, _-ℤ_, _*ℤ_, negℤ, natAbs, zero-*ℤ, *ℤ-zero}
@@ -26,6 +26,7 @@ use Rattle.bounds.proofs.Laws.{Ground}
 use Rattle.bounds.proofs.Products.{Term}
 use Rattle.bounds.proofs.Sums.{kahanWhole, symmetricWhole}
 use Rattle.bounds.proofs.Whole.{nearZ, ground-of, units-rounded}
+use Rattle.bounds.proofs.Ranges.{product-low, sum-low, later-low}
 use Rattle.bounds.proofs.Operands.{Operand, Four, four}
 use Rattle.bounds.proofs.Chains.{w-lies, e-lies, f-lies, r-lies, e-sum}
 
@@ -101,31 +102,21 @@ module _ (β p : ℕ) (kind : IsKind β p) where
 
     sum-count : (n : ℕ) (x y : Exact) → n ≤ 3 → negℤ (pos (400 + 23 * n)) ≤ℤ x .e → negℤ (pos (400 + 23 * n)) ≤ℤ y .e
         → units β k (value (rounded β p (plus β x y))) ≡ nearZ β p (units β k x +ℤ units β k y)
-    sum-count n x y h gx gy = rounded-count n (plus β x y) h (least (x .e) (y .e) gx gy)
+    sum-count n x y h gx gy = rounded-count n (plus β x y) h (sum-low n (x .e) (y .e) gx gy)
         ∙ ap (nearZ β p) (units-plus β k x y (low n (x .e) h gx) (low n (y .e) h gy))
-      where
-        least : (e f : ℤ) → negℤ (pos (400 + 23 * n)) ≤ℤ e → negℤ (pos (400 + 23 * n)) ≤ℤ f
-            → negℤ (pos (400 + 23 * n)) ≤ℤ minZ e f
-        least e f a b = omega (arith, ints, clamps)
-
-    later : (n : ℕ) (e : ℤ) → negℤ (pos (400 + 23 * n)) ≤ℤ e → negℤ (pos (400 + 23 * suc n)) ≤ℤ e
-    later n e h = omega (arith, ints)
 
     -- a product, its rounding and its error
     module _ (c d : Figure) (c-in : Operand β p c) (d-in : Operand β p d) where
-      product-low : negℤ (pos (400 + 23 * 0)) ≤ℤ product c d .e
-      product-low = go (c .q) (d .q) (c-in .near) (d-in .near)
-        where
-          go : (x y : ℤ) → natAbs x ≤ 200 → natAbs y ≤ 200 → negℤ (pos (400 + 23 * 0)) ≤ℤ (x +ℤ y)
-          go x y a b = omega (arith, ints)
+      exact-low : negℤ (pos (400 + 23 * 0)) ≤ℤ product c d .e
+      exact-low = product-low (c .q) (d .q) (c-in .near) (d-in .near)
 
       w-count : units β k (value (roundedProduct β p c d)) ≡ nearZ β p (units β k (product c d))
-      w-count = rounded-count 0 (product c d) (omega arith) product-low
+      w-count = rounded-count 0 (product c d) (omega arith) exact-low
 
       e-count : units β k (value (productError β p c d))
           ≡ nearZ β p (units β k (product c d) -ℤ nearZ β p (units β k (product c d)))
       e-count = sum-count 1 (product c d) (value (opposite (roundedProduct β p c d))) (omega arith)
-          (later 0 (product c d .e) product-low) (w-lies β p kind c d c-in d-in .low)
+          (later-low 0 (product c d .e) exact-low) (w-lies β p kind c d c-in d-in .low)
           ∙ ap (λ (z : ℤ). nearZ β p (units β k (product c d) +ℤ z))
           (units-opposite β k (roundedProduct β p c d) ∙ ap negℤ w-count)
 
@@ -135,13 +126,13 @@ module _ (β p : ℕ) (kind : IsKind β p) where
 
       pub sum-units : units β k (exactSum β a b c d) ≡ units β k (product a b) +ℤ units β k (product c d)
       sum-units = units-plus β k (product a b) (product c d)
-          (low 0 _ (omega arith) (product-low a b (all .a-in) (all .b-in)))
-          (low 0 _ (omega arith) (product-low c d (all .c-in) (all .d-in)))
+          (low 0 _ (omega arith) (exact-low a b (all .a-in) (all .b-in)))
+          (low 0 _ (omega arith) (exact-low c d (all .c-in) (all .d-in)))
 
       f-count : units β k (value (fusedFirst β p a b c d))
           ≡ nearZ β p (units β k (product a b) +ℤ nearZ β p (units β k (product c d)))
       f-count = sum-count 1 (product a b) (value (roundedProduct β p c d)) (omega arith)
-          (later 0 (product a b .e) (product-low a b (all .a-in) (all .b-in)))
+          (later-low 0 (product a b .e) (exact-low a b (all .a-in) (all .b-in)))
           (w-lies β p kind c d (all .c-in) (all .d-in) .low)
           ∙ ap (λ (z : ℤ). nearZ β p (units β k (product a b) +ℤ z)) (w-count c d (all .c-in) (all .d-in))
 
@@ -171,5 +162,5 @@ module _ (β p : ℕ) (kind : IsKind β p) where
           ≡ symmetricWhole (nearZ β p) (units β k (product a b)) (units β k (product c d))
       unfolding symmetric
       symmetric-count = sum-count 3 (value (productsSum β p a b c d)) (value (errorsSum β p a b c d)) (omega arith)
-          (later 2 _ (r-lies β p kind a b c d accepted .low)) (e-sum β p kind a b c d accepted .low)
+          (later-low 2 _ (r-lies β p kind a b c d accepted .low)) (e-sum β p kind a b c d accepted .low)
           ∙ ap₂ (λ (x y : ℤ). nearZ β p (x +ℤ y)) r-count errors-count

@@ -11,6 +11,7 @@ use borrow.Author.Differences.{ints}
 use Rattle.std.specs.Numbers.{minZ}
 use Rattle.std.proofs.shelf.Signed.{clamps}
 use Rattle.std.proofs.shelf.Tests.{cases-lt}
+use Rattle.whole.proofs.Comparisons.{product-below}
 use Rattle.whole.proofs.Integers.{natAbs-mul, natAbs-neg}
 use Rattle.whole.proofs.Powers.{power-pos, power-le, power-order, power-split, power-parts}
 use Rattle.whole.proofs.Quotients.{cancel-le}
@@ -37,6 +38,17 @@ pub record Lies (β p n : ℕ) (f : Figure) : Type 0 where
   pub low : negℤ (pos (400 + 23 * n)) ≤ℤ f .q
   pub high : (f .q +ℤ pos p) ≤ℤ pos (448 + 2 * n)
 
+-- the floors: that of a product of operands, of a sum, and of the level after
+pub product-low : (x y : ℤ) → natAbs x ≤ 200 → natAbs y ≤ 200 → negℤ (pos (400 + 23 * 0)) ≤ℤ (x +ℤ y)
+product-low x y a b = omega (arith, ints)
+
+pub sum-low : (n : ℕ) (e f : ℤ) → negℤ (pos (400 + 23 * n)) ≤ℤ e → negℤ (pos (400 + 23 * n)) ≤ℤ f
+    → negℤ (pos (400 + 23 * n)) ≤ℤ minZ e f
+sum-low n e f g h = omega (arith, ints, clamps)
+
+pub later-low : (n : ℕ) (e : ℤ) → negℤ (pos (400 + 23 * n)) ≤ℤ e → negℤ (pos (400 + 23 * suc n)) ≤ℤ e
+later-low n e h = omega (arith, ints)
+
 module _ (β p : ℕ) (two : 2 ≤ β) (some : 2 ≤ p) (few : p ≤ 24) where
   one : 1 ≤ p
   one = omega arith
@@ -60,13 +72,10 @@ module _ (β p : ℕ) (two : 2 ≤ β) (some : 2 ≤ p) (few : p ≤ 24) where
   spans-later n x s = record {
     m = s .m;
     small = s .small;
-    low = lower (x .e) (s .low);
+    low = later-low n (x .e) (s .low);
     high = higher (x .e) (s .high);
   }
     where
-      lower : (e : ℤ) → negℤ (pos (400 + 23 * n)) ≤ℤ e → negℤ (pos (400 + 23 * suc n)) ≤ℤ e
-      lower e h = omega (arith, ints)
-
       higher : (e : ℤ) → (e +ℤ pos (s .m)) ≤ℤ pos (448 + 2 * n) → (e +ℤ pos (s .m)) ≤ℤ pos (448 + 2 * suc n)
       higher e h = omega (arith, ints)
 
@@ -86,20 +95,11 @@ module _ (β p : ℕ) (two : 2 ≤ β) (some : 2 ≤ p) (few : p ≤ 24) where
   product-spans x y sx sy qx qy = record {
     m = p + p;
     small = rw (natAbs-mul (x .s) (y .s), power-parts β p p (p + p) refl)
-        (below (natAbs (x .s)) (natAbs (y .s)) (β ^ p) sx sy);
-    low = lower (x .q) (y .q) qx qy;
+        (product-below (natAbs (x .s)) (natAbs (y .s)) (β ^ p) sx sy);
+    low = product-low (x .q) (y .q) qx qy;
     high = higher (x .q) (y .q) qx qy;
   }
     where
-      below : (m n P : ℕ) → m < P → n < P → m * n < P * P
-      below m n P h k =
-          let a : m * n ≤ m * P = mul-le-mul-left m (omega arith) in
-          let b : m * P < P * P = mul-lt-mul-of-pos-right h (omega arith) in
-          omega arith
-
-      lower : (x y : ℤ) → natAbs x ≤ 200 → natAbs y ≤ 200 → negℤ (pos (400 + 23 * 0)) ≤ℤ (x +ℤ y)
-      lower x y a b = omega (arith, ints)
-
       higher : (x y : ℤ) → natAbs x ≤ 200 → natAbs y ≤ 200 → (x +ℤ y +ℤ pos (p + p)) ≤ℤ pos (448 + 2 * 0)
       higher x y a b = omega (arith, ints)
 
@@ -174,7 +174,7 @@ module _ (β p : ℕ) (two : 2 ≤ β) (some : 2 ≤ p) (few : p ≤ 24) where
   sum-lies n x y a b =
       rounded-lies n (plus β x y) (suc N)
       (rw (pow-suc β N) (sums (units β k x) (units β k y) (β ^ N) (size x a (lower-of .0)) (size y b (lower-of .1))))
-      (least (x .e) (y .e) (a .low) (b .low)) (top (x .e) (y .e) (a .high))
+      (sum-low n (x .e) (y .e) (a .low) (b .low)) (top (x .e) (y .e) (a .high))
     where
       k : ℤ
       k = minZ (x .e) (y .e)
@@ -184,10 +184,6 @@ module _ (β p : ℕ) (two : 2 ≤ β) (some : 2 ≤ p) (few : p ≤ 24) where
 
       lower-of : (minZ (x .e) (y .e) ≤ℤ x .e) × (minZ (x .e) (y .e) ≤ℤ y .e)
       lower-of = (omega (arith, ints, clamps), omega (arith, ints, clamps))
-
-      least : (e f : ℤ) → negℤ (pos (400 + 23 * n)) ≤ℤ e → negℤ (pos (400 + 23 * n)) ≤ℤ f
-          → negℤ (pos (400 + 23 * n)) ≤ℤ minZ e f
-      least e f g h = omega (arith, ints, clamps)
 
       top : (e f : ℤ) → (e +ℤ pos (a .m)) ≤ℤ pos (448 + 2 * n)
           → (minZ e f +ℤ pos (suc (natAbs (pos (448 + 2 * n) -ℤ minZ e f)))) ≤ℤ pos (449 + 2 * n)

@@ -7,7 +7,7 @@ use native.Mathlib.Omega.{arith}
 use lib.IntN.{ℤ, pos, negsuc, _-ℤ_, negℤ, natAbs}
 use lib.Signed.{_≤ℤ_}
 use borrow.Author.Differences.{ints}
-use Rattle.whole.proofs.Distances.{gap}
+use Rattle.whole.proofs.Distances.{gap, pos-gap}
 use Rattle.whole.proofs.Integers.{natAbs-neg}
 use Rattle.bounds.proofs.Laws.{Coarse, Laws}
 use Rattle.bounds.proofs.Cuts.{Rounds, cut-low, cut-high, half-law, fix-law, relative-law, order-law}
@@ -23,10 +23,7 @@ sign-size rn (pos t) = refl
 sign-size rn (negsuc t) = natAbs-neg (pos (rn (suc t)))
 
 sign-error : (rn : ℕ → ℕ) (t : ℤ) → natAbs (bySign rn t -ℤ t) ≡ gap (rn (natAbs t)) (natAbs t)
-sign-error rn (pos t) = go (rn t) t
-  where
-    go : (v t : ℕ) → natAbs (pos v -ℤ pos t) ≡ gap v t
-    go v t = omega (arith, ints)
+sign-error rn (pos t) = pos-gap (rn t) t
 sign-error rn (negsuc t) = go (rn (suc t)) t
   where
     go : (v t : ℕ) → natAbs (negℤ (pos v) -ℤ negsuc t) ≡ gap v (suc t)

@@ -7,15 +7,12 @@ use native.Mathlib.Omega.{arith}
 use lib.IntN.{ℤ, pos, negsuc, _+ℤ_, _-ℤ_, negℤ, natAbs}
 use lib.Signed.{_≤ℤ_, _<ℤ_}
 use borrow.Author.Differences.{ints}
-use Rattle.whole.proofs.Distances.{gap}
+use Rattle.whole.proofs.Distances.{gap, pos-gap}
 use Rattle.whole.proofs.Powers.{power-next}
 use Rattle.whole.proofs.Integers.{natAbs-neg}
 use Rattle.bounds.proofs.Divisors.{divides-sum, divides-power}
 use Rattle.bounds.proofs.Laws.{Ground, Coarse, Laws}
 use Rattle.bounds.proofs.Cases.{Last, Shape, near-sum}
-
-pub pos-gap : (s y : ℕ) → natAbs (pos s -ℤ pos y) ≡ gap s y
-pos-gap s y = omega (arith, ints)
 
 neg-sum : (a b : ℤ) → negℤ a +ℤ negℤ b ≡ negℤ (a +ℤ b)
 neg-sum a b = omega (arith, ints)

@@ -3,16 +3,17 @@ use mathlib.Core.Path.{_≡_, refl, sym, ap, ap₂, _∙_, subst}
 use mathlib.Core.Bool.{Bool, true, false, cond}
 use mathlib.Core.Logic.{_⊎_, inl, inr}
 use Prim.Native.Nat.{ℕ, _+_, _*_, _-_, _/_, _%_, _^_, _≤_, _<_}
-use native.Mathlib.Nat.{mul-le-mul-left, mul-le-mul-right, mul-one, pow-zero, mod-lt, div-add-mod'}
+use native.Mathlib.Nat.{mul-le-mul-left, mul-le-mul-right, mul-one, mul-left-comm, pow-zero, mod-lt, div-add-mod'}
 use native.Mathlib.Omega.{arith}
 use lib.Dec.{eqb}
-use lib.IntN.{ℤ, pos, _+ℤ_, _-ℤ_, natAbs, +ℤ-comm}
+use lib.IntN.{ℤ, pos, _+ℤ_, _-ℤ_, natAbs}
 use lib.Signed.{_≤ℤ_}
 use borrow.Author.Differences.{ints}
 use Rattle.std.specs.Numbers.{minZ}
 use Rattle.std.proofs.shelf.Signed.{clamps}
 use Rattle.std.proofs.shelf.Tests.{cases-lt}
 use Rattle.std.proofs.shelf.Ways.{tells}
+use Rattle.whole.proofs.Comparisons.{size-same}
 use Rattle.whole.proofs.Powers.{power-pos, power-le, power-one, power-split, power-parts}
 use Rattle.rounding.specs.Exact.{Exact, units, plus}
 use Rattle.rounding.specs.Rounding.{signed}
@@ -42,23 +43,11 @@ lowered-plus β h l le =
     ∙ ap₂ (λ (a b : ℤ). record { m = a +ℤ b; e = l .exponent })
     (signed-times (h .negative) (h .size) (β ^ natAbs (h .exponent -ℤ l .exponent)))
     (signed-times (l .negative) (l .size) (β ^ natAbs (l .exponent -ℤ l .exponent))
-    ∙ ap (signed (l .negative)) (ap (λ (k : ℕ). l .size * β ^ k) (here (l .exponent))
+    ∙ ap (signed (l .negative)) (ap (λ (k : ℕ). l .size * β ^ k) (size-same (l .exponent))
     ∙ ap (λ (k : ℕ). l .size * k) (pow-zero β) ∙ mul-one (l .size))))
   where
     lower : (a b : ℤ) → b ≤ℤ a → minZ a b ≡ b
     lower a b le = omega (arith, ints, clamps)
-
-    here : (e : ℤ) → natAbs (e -ℤ e) ≡ 0
-    here e = omega (arith, ints)
-
-pub plus-comm : (β : ℕ) (x y : Exact) → plus β x y ≡ plus β y x
-plus-comm β x y =
-    ap (λ (w : ℤ). record { m = units β w x +ℤ units β w y; e = w }) (lower (x .e) (y .e))
-    ∙ ap (λ (m : ℤ). record { m = m; e = minZ (y .e) (x .e) })
-    (+ℤ-comm (units β (minZ (y .e) (x .e)) x) (units β (minZ (y .e) (x .e)) y))
-  where
-    lower : (a b : ℤ) → minZ a b ≡ minZ b a
-    lower a b = omega (arith, ints, clamps)
 
 -- where a remainder of m is left, n was not brought all the way up: the sum has more than p digits
 still-long : (β p n d i m N : ℕ) → IsKind β p → Rise β p n d i → m < β ^ (2 * p) → 0 < m % β ^ (d - i)
@@ -170,10 +159,7 @@ module _ (β p : ℕ) (kind : IsKind β p) (h l : Term) (le : l .exponent ≤ℤ
       raised : (d : ℕ) → i ≤ d → h .size * β ^ d ≡ β ^ (d - i) * (h .size * β ^ i)
       raised d g =
           let e : d - i + i ≡ d = omega arith in
-          ap (λ (a : ℕ). h .size * a) (power-parts β (d - i) i d e) ∙ swap (h .size) (β ^ (d - i)) (β ^ i)
-        where
-          swap : (n K I : ℕ) → n * (K * I) ≡ K * (n * I)
-          swap n K I = omega arith
+          ap (λ (a : ℕ). h .size * a) (power-parts β (d - i) i d e) ∙ mul-left-comm (h .size) (β ^ (d - i)) (β ^ i)
 
       level : (d : ℕ) → i ≤ d → natAbs (h .exponent -ℤ l .exponent) ≡ d
           → h .exponent -ℤ pos i ≡ l .exponent +ℤ pos (d - i)

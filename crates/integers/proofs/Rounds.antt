@@ -11,6 +11,7 @@ use lib.Signed.{_≤ℤ_}
 use borrow.Author.Differences.{ints}
 use Rattle.std.proofs.shelf.Tests.{cases-lt}
 use Rattle.std.proofs.shelf.Ways.{tells}
+use Rattle.whole.proofs.Comparisons.{size-same}
 use Rattle.whole.proofs.Powers.{power-pos, power-parts}
 use Rattle.rounding.specs.declared.Figure.{Figure}
 use Rattle.rounding.specs.Exact.{Exact}
@@ -165,7 +166,7 @@ module _ (β p : ℕ) (kind : IsKind β p) (x : Exact) (t : Truncated) (s : Stan
       let w : ℕ = K * (n % β ^ k) + s .low in
       let unit : β ^ (s .rest + k) ≡ K * β ^ k = power-parts β (s .rest) k (s .rest + k) refl in
       let there : K * n + s .low ≡ natAbs (x .m) * β ^ natAbs (x .e -ℤ x .e) =
-      sym size-is ∙ sym (ap (λ (m : ℕ). natAbs (x .m) * β ^ m) (here (x .e))
+      sym size-is ∙ sym (ap (λ (m : ℕ). natAbs (x .m) * β ^ m) (size-same (x .e))
       ∙ ap (λ (m : ℕ). natAbs (x .m) * m) (pow-zero β) ∙ mul-one (natAbs (x .m))) in
       let place = subst (λ (V : ℕ). Placed (β ^ (p - 1)) (β ^ p) V (natAbs (x .m) * β ^ natAbs (x .e -ℤ x .e)) q w b)
       (sym unit) (subst (λ (m : ℕ). Placed (β ^ (p - 1)) (β ^ p) (K * β ^ k) m q w b) there (kept-place k h)) in
@@ -176,9 +177,6 @@ module _ (β p : ℕ) (kind : IsKind β p) (x : Exact) (t : Truncated) (s : Stan
     where
       big : (K U m : ℕ) → m ≡ K * n + s .low → U ≤ n → 1 ≤ U → 1 ≤ K → 0 < m
       big K U m e u z h = let some : 1 ≤ n = omega arith in omega (arith, mul-le-mul h some)
-
-      here : (e : ℤ) → natAbs (e -ℤ e) ≡ 0
-      here e = omega (arith, ints)
 
       stays : (e : ℤ) → e ≤ℤ e
       stays e = omega (arith, ints)

@@ -1,9 +1,7 @@
 -- The worth of a product's sign, size and exponent.
 use mathlib.Core.Path.{_≡_, sym, ap, ap₂, _∙_}
 use mathlib.Core.Bool.{Bool}
-use Prim.Native.Nat.{ℕ, _+_, _*_, _≤_, _<_}
-use native.Mathlib.Nat.{mul-le-mul}
-use native.Mathlib.Omega.{arith}
+use Prim.Native.Nat.{ℕ, _*_}
 use lib.IntN.{ℤ, _+ℤ_, _*ℤ_}
 use Rattle.rounding.specs.declared.Figure.{Figure}
 use Rattle.rounding.specs.Exact.{Exact, value, product}
@@ -19,9 +17,3 @@ product-worth x y a b sign e ea eb signs ee =
     (sym (signs (a .size) (b .size))
     ∙ ap₂ (λ (u v : ℤ). u *ℤ v) (ap (λ (z : Exact). z .m) ea) (ap (λ (z : Exact). z .m) eb))
     ee
-
-pub product-below : (m n P : ℕ) → m < P → n < P → m * n < P * P
-product-below m n P h g =
-    let a : m + 1 ≤ P = omega arith in
-    let b : n + 1 ≤ P = omega arith in
-    omega (arith, mul-le-mul a b)

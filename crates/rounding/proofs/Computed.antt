@@ -2,7 +2,7 @@
 use mathlib.Core.Path.{_≡_, refl, sym, ap, ap₂, _∙_, subst}
 use mathlib.Core.Bool.{Bool, true, false, cond}
 use Prim.Native.Nat.{ℕ, _+_, _*_, _-_, _/_, _%_, _^_, _≤_, _<_}
-use native.Mathlib.Nat.{mul-le-mul-right, div-add-mod', mod-lt, le-div-iff-mul-le, div-lt-iff-lt-mul}
+use native.Mathlib.Nat.{mul-le-mul-right, mul-left-comm, div-add-mod', mod-lt, le-div-iff-mul-le, div-lt-iff-lt-mul}
 use native.Mathlib.Omega.{arith}
 use lib.Dec.{eqb}
 use lib.IntN.{ℤ, pos, _+ℤ_, _-ℤ_, natAbs}
@@ -89,7 +89,8 @@ module _ (β p : ℕ) (two : 2 ≤ β) (some : 1 ≤ p) where
       let scaled = scaled-place (β ^ c) (β ^ (p - 1)) (β ^ p) (β ^ l) (natAbs (x .m) * β ^ i) d w b
       (power-pos β c two) place in
       let wide : β ^ c * (natAbs (x .m) * β ^ i) ≡ widened β p x =
-      turn (β ^ c) (natAbs (x .m)) (β ^ i) ∙ ap (λ (n : ℕ). natAbs (x .m) * n) (sym (power-parts β c i (p - 1) ci)) in
+      mul-left-comm (β ^ c) (natAbs (x .m)) (β ^ i)
+      ∙ ap (λ (n : ℕ). natAbs (x .m) * n) (sym (power-parts β c i (p - 1) ci)) in
       let unit : β ^ c * β ^ l ≡ β ^ (c + l) = sym (power-parts β c l (c + l) refl) in
       let here : Placed (β ^ (p - 1)) (β ^ p) (β ^ (c + l)) (widened β p x) d (β ^ c * w) b =
       subst (λ (T : ℕ). Placed (β ^ (p - 1)) (β ^ p) (β ^ (c + l)) T d (β ^ c * w) b) wide
@@ -102,9 +103,6 @@ module _ (β p : ℕ) (two : 2 ≤ β) (some : 1 ≤ p) where
     where
       steps : (e k : ℤ) → k ≤ℤ e → (e -ℤ pos (p - 1)) ≤ℤ k → p - 1 - natAbs (e -ℤ k) + natAbs (e -ℤ k) ≡ p - 1
       steps e k a b = omega (arith, ints)
-
-      turn : (C m I : ℕ) → C * (m * I) ≡ m * (C * I)
-      turn C m I = omega arith
 
       level : (e k : ℤ) (j : ℕ) → k ≤ℤ e → (e -ℤ pos (p - 1)) ≤ℤ k → j ≡ p - 1 - natAbs (e -ℤ k) + l
           → e -ℤ pos (p - 1) +ℤ pos j ≡ k +ℤ pos l

@@ -3,7 +3,7 @@ use mathlib.Core.Path.{_≡_, refl, sym, ap, _∙_, subst}
 use mathlib.Core.Bool.{Bool, cond}
 use mathlib.Core.Logic.{_⊎_, inl, inr}
 use Prim.Native.Nat.{ℕ, _+_, _*_, _-_, _%_, _^_, _≤_, _<_}
-use native.Mathlib.Nat.{mul-le-mul-right}
+use native.Mathlib.Nat.{mul-le-mul-right, mul-left-comm}
 use native.Mathlib.Omega.{arith}
 use lib.IntN.{ℤ, pos, _+ℤ_, _-ℤ_, _*ℤ_, natAbs}
 use lib.Signed.{_≤ℤ_}
@@ -107,11 +107,8 @@ module _ (β p : ℕ) (even : β % 2 ≡ 0) (two : 2 ≤ β) (some : 2 ≤ p) (x
       spread : (e : ℤ) → k ≤ℤ (e -ℤ pos (p - 1)) → natAbs (e -ℤ pos (p - 1) -ℤ k) + (p - 1) ≡ natAbs (e -ℤ k)
       spread e h = omega (arith, ints)
 
-      turn : (C m B : ℕ) → C * (m * B) ≡ m * (C * B)
-      turn C m B = omega arith
-
       wide : β ^ c * widened β p x ≡ natAbs (x .m) * β ^ natAbs (x .e -ℤ k)
-      wide = turn (β ^ c) (natAbs (x .m)) (β ^ (p - 1))
+      wide = mul-left-comm (β ^ c) (natAbs (x .m)) (β ^ (p - 1))
           ∙ ap (λ (n : ℕ). natAbs (x .m) * n) (sym (power-parts β c (p - 1) (natAbs (x .e -ℤ k)) (spread (x .e) fine)))
 
       place : Placed (β ^ (p - 1)) (β ^ p) (β ^ (c + f .j)) (natAbs (x .m) * β ^ natAbs (x .e -ℤ k))

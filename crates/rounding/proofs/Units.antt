@@ -1,14 +1,16 @@
--- Counting in finer units multiplies by a power of the radix.
+-- Counting in finer units multiplies by a power of the radix; and a sum in either order.
 use mathlib.Core.Path.{_≡_, sym, ap, ap₂, _∙_}
 use Prim.Native.Nat.{ℕ, _+_, _*_, _^_}
 use native.Mathlib.Omega.{arith}
 use lib.Pow.{pow-add}
-use lib.IntN.{ℤ, pos, _+ℤ_, _-ℤ_, _*ℤ_, negℤ, natAbs}
+use lib.IntN.{ℤ, pos, _+ℤ_, _-ℤ_, _*ℤ_, negℤ, natAbs, +ℤ-comm}
 use lib.Signed.{_≤ℤ_}
 use borrow.Author.Differences.{ints}
+use Rattle.std.specs.Numbers.{minZ}
+use Rattle.std.proofs.shelf.Signed.{clamps}
 use Rattle.whole.proofs.Integers.{*ℤ-assoc, +ℤ-*ℤ, neg-left, natAbs-mul}
 use Rattle.rounding.specs.declared.Figure.{Figure}
-use Rattle.rounding.specs.Exact.{Exact, value, units, distance}
+use Rattle.rounding.specs.Exact.{Exact, value, units, plus, distance}
 
 pub units-finer : (β : ℕ) (k l : ℤ) (x : Exact) → k ≤ℤ l → l ≤ℤ x .e
     → units β k x ≡ units β l x *ℤ pos (β ^ natAbs (l -ℤ k))
@@ -35,3 +37,12 @@ distance-finer β k l x y kl lx ly =
 pub units-size : (β : ℕ) (g : Figure) (k : ℤ)
     → natAbs (units β k (value g)) ≡ natAbs (g .s) * β ^ natAbs (g .q -ℤ k)
 units-size β g k = natAbs-mul (g .s) (pos (β ^ natAbs (g .q -ℤ k)))
+
+pub plus-comm : (β : ℕ) (x y : Exact) → plus β x y ≡ plus β y x
+plus-comm β x y =
+    ap (λ (w : ℤ). record { m = units β w x +ℤ units β w y; e = w }) (lower (x .e) (y .e))
+    ∙ ap (λ (m : ℤ). record { m = m; e = minZ (y .e) (x .e) })
+    (+ℤ-comm (units β (minZ (y .e) (x .e)) x) (units β (minZ (y .e) (x .e)) y))
+  where
+    lower : (a b : ℤ) → minZ a b ≡ minZ b a
+    lower a b = omega (arith, ints, clamps)

@@ -7,7 +7,8 @@ use Rattle.integers.specs.Rounding.{nearestFigure}
 use Rattle.integers.specs.Sums.{alignedSum}
 use Rattle.integers.proofs.Rises.{below-double}
 use Rattle.integers.proofs.Rounds.{nearest-rounds}
-use Rattle.integers.proofs.Alignments.{aligned-stands, plus-comm}
+use Rattle.rounding.proofs.Units.{plus-comm}
+use Rattle.integers.proofs.Alignments.{aligned-stands}
 use Rattle.integers.proofs.sum.sum_down.Needs as need
 
 pub returns : need.returns

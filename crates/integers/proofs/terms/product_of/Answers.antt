@@ -1,7 +1,8 @@
 -- The product of two figures' terms is worth the product of the figures.
 use native.Mathlib.Omega.{arith}
 use borrow.Author.Differences.{ints}
-use Rattle.integers.proofs.Signs.{product-worth, product-below}
+use Rattle.whole.proofs.Comparisons.{product-below}
+use Rattle.integers.proofs.Signs.{product-worth}
 use Rattle.integers.proofs.terms.product_of.Needs as need
 
 pub returns : need.returns
