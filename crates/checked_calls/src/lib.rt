@@ -1,4 +1,6 @@
 // Thirteen calls with known answers, made by the library (`calls` has how a call is made).
+#![tactic(auto)]
+
 ghost use Rattle.std.specs.Prelude.{◌≡◌, ℕ, Result};
 ghost use Rattle.rounding.specs.Nearest.{RoundsToNearest};
 ghost use Rattle.rounding.specs.declared.Figure.{Figure};

@@ -1,5 +1,7 @@
 // Tests of the arithmetic on integers and of the methods over it: answers that were computed elsewhere, the edges of
 // what figures can be, and what the methods refuse.
+#![tactic(auto)]
+
 #[cfg(test)]
 mod binary;
 #[cfg(test)]

@@ -1,4 +1,6 @@
 // A console: one method, and ten lanes whose phasors turn.
+#![tactic(auto)]
+
 ghost use Rattle.std.specs.Prelude.{◌≡◌, ◌+◌, [], replicate};
 ghost use Rattle.rounding.specs.Refusals.{unless, coded};
 ghost use Rattle.figures.specs.Figures.{opposite};

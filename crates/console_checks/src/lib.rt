@@ -1,5 +1,7 @@
 // Tests of the console: long runs of calls whose answers were computed elsewhere, lanes at their edges, a full lane,
 // and what a refused call leaves.
+#![tactic(auto)]
+
 #[cfg(test)]
 mod answers;
 #[cfg(test)]

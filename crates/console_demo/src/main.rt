@@ -1,5 +1,7 @@
 // The program that shows the calls at work: calls with known answers; a heat that was decided wrongly, in both kinds,
 // step by step; and consoles on which several users compute, turn lanes, restart and read them.
+#![tactic(auto)]
+
 mod consoles;
 mod heat;
 mod scripts;

@@ -1,5 +1,7 @@
 // The program that shows the calls at work: calls with known answers; a heat that was decided wrongly, in both kinds,
 // step by step; and sums, determinants and complex products by each method.
+#![tactic(auto)]
+
 mod heat;
 mod sentences;
 mod shown;

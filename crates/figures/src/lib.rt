@@ -1,4 +1,6 @@
 // Figures of a kind: which they are, one, the opposite, and the arithmetic that works on them (`arithmetic`).
+#![tactic(auto)]
+
 ghost use Rattle.std.specs.Prelude.{◌≡◌, true, ◌≤◌, ◌<◌, nat_abs};
 ghost use Rattle.rounding.specs.Operations.{is_figure};
 ghost use Rattle.figures.specs.Figures.{one_figure, flipped};

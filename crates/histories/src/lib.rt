@@ -1,5 +1,7 @@
 // The calls of a console as values, and histories of them. What a history says of a lane, and what it means that the
 // lanes track a history, stands in specs/.
+#![tactic(auto)]
+
 use rounding::Figure;
 
 // A call of a console. The operands of the first three are a, b, c, d; a turn has the lane and the factor c + di.

@@ -1,4 +1,6 @@
 // The arithmetic of a kind in whole numbers of 64 bits: one text for every kind.
+#![tactic(auto)]
+
 ghost use Rattle.std.specs.Prelude.{◌≡◌};
 ghost use Rattle.rounding.specs.Refusals.{coded, unless};
 ghost use Rattle.rounding.specs.Operations.{outside};

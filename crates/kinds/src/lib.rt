@@ -1,4 +1,6 @@
 // Kinds of figures, and everything that knows powers of their radix.
+#![tactic(auto)]
+
 ghost use Rattle.std.specs.Prelude.{◌≡◌, ℕ};
 ghost use Rattle.kinds.specs.Kinds.{IsKind};
 ghost use Rattle.std.proofs.Common.{rules};

@@ -1,4 +1,6 @@
 // Ten lanes, each with a turning phasor and the number of its turns.
+#![tactic(auto)]
+
 ghost use Rattle.std.specs.Prelude.{◌≡◌, replicate};
 ghost use Rattle.lanes.specs.declared.Lanes.{Lanes};
 ghost use Rattle.lanes.specs.Lanes.{view, found, put, fresh_lane};

@@ -1,4 +1,6 @@
 // Methods for ab + cd: which operands they accept, the interface (`method`), and Kahan's method (`kahan`).
+#![tactic(auto)]
+
 ghost use Rattle.std.specs.Prelude.{◌≡◌};
 ghost use Rattle.rounding.specs.Refusals.{coded_fault};
 ghost use Rattle.bounds.specs.Fours.{fault, faults};

@@ -1,4 +1,6 @@
 // Sums of two products, determinants and complex products, by any method.
+#![tactic(auto)]
+
 ghost use Rattle.std.specs.Prelude.{◌≡◌};
 ghost use Rattle.rounding.specs.Refusals.{unless, coded};
 ghost use Rattle.figures.specs.Figures.{opposite, flipped};

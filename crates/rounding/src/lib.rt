@@ -1,6 +1,8 @@
 // Figures, what they are worth, and what it means to round. The meanings stand in specs/: exact numbers (Exact), the
 // digits of a number (Digits), the rounded figure (Rounding), what "nearest" says (Nearest), refusals (Refusals) and
 // what each operation answers (Operations).
+#![tactic(auto)]
+
 ghost use Rattle.std.specs.Prelude.{◌≡◌};
 ghost use Rattle.rounding.specs.Refusals.{number};
 

@@ -1,4 +1,6 @@
 // Calls made of a console one after the other, and what all of them together promise.
+#![tactic(auto)]
+
 ghost use Rattle.std.specs.Prelude.{◌≡◌, [], replicate};
 ghost use Rattle.rounding.specs.Errors.{UlpIsLastPlace};
 ghost use Rattle.rounding.specs.Nearest.{RoundsToNearest};

@@ -1,5 +1,7 @@
 // What a program says of calls: types that print themselves, with the bytes that they print. Here are figures, refusals
 // and arrangements; `operations` has calls made with no console, `consoles` those made of one.
+#![tactic(auto)]
+
 ghost use Rattle.std.specs.Prelude.{◌≡◌, Some};
 ghost use Rattle.rounding.specs.Refusals.{number};
 ghost use Rattle.spelling.specs.Spelled.{text_of};

@@ -1,4 +1,6 @@
 // The text of a figure: its significand, the mark of its kind and its exponent, both numbers in decimal.
+#![tactic(auto)]
+
 ghost use Rattle.std.specs.Prelude.{◌≡◌, ◌≤◌, ◌∷◌, ◌++◌, length, Some};
 ghost use Rattle.std.specs.Fmt.{signed_decimal};
 ghost use Rattle.spelling.specs.Spelled.{spelled, text_of};

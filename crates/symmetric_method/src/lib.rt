@@ -1,5 +1,7 @@
 // The symmetric method of Cornea, Harrison and Tang: both products are rounded and both errors are kept, so that the
 // order of the products does not matter. It stands over binary arithmetics.
+#![tactic(auto)]
+
 ghost use Rattle.std.specs.Prelude.{◌≡◌, ◌-◌, ◌^◌, IfOk, Ok};
 ghost use Rattle.rounding.specs.Exact.{value};
 ghost use Rattle.rounding.specs.Errors.{Within};
