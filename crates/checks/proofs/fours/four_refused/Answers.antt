@@ -6,4 +6,4 @@ use Rattle.checks.proofs.fours.four_refused.Goals as goal
 pub returns : goal.returns
 returns g c =
     made_then c.refuses-3.result
-    (λ _. fault_of _ _ _ (sym c.sum.ensures ∙ c.in-ok-refuses.ensures)) c.refuses-3.ensures
+    (λ _. fault_of _ _ _ (sym c.sum.ensures ∙ c.in_ok-refuses.ensures)) c.refuses-3.ensures

@@ -13,8 +13,8 @@ returns g c =
     (λ i. Stands g.Arith.Kind.beta g.Arith.Kind.prec (g.M.Method.answer c.args.method.now)
     (c.given-a.ensures i) (c.given-b.ensures i) (c.given-c.ensures i) (c.given-d.ensures i)
     (c.given.ensures i) (c.given-2.ensures i) (c.given-3.ensures i) (c.given-4.ensures i)) (
-      sym c.sum.ensures ∙ ap coded c.in-ok-answers.ensures,
-      sym c.determinant.ensures ∙ ap coded c.in-ok-answers-2.ensures,
+      sym c.sum.ensures ∙ ap coded c.in_ok-answers.ensures,
+      sym c.determinant.ensures ∙ ap coded c.in_ok-answers-2.ensures,
       sym c.complex-product.ensures ∙ ap coded h,
     ))
     c.answers-both.ensures

@@ -17,7 +17,7 @@ loop-said-preserved c =
     let script : List Said = c.args.script.now in
     let blank : Said = record { user = Filter; call = Sum zero_figure zero_figure zero_figure zero_figure } in
     let inside : i < length script = omega (arith, c.loop-said-test.true) in
-    ap calls_of c.in-ok-push.ensures.items
+    ap calls_of c.in_ok-push.ensures.items
     ∙ map-append (λ (e : Entry). e.call) (vec_items c.loop-said.entries) (c.new.result ∷ [])
     ∙ ap₂ (λ (l : List Call) (e : Entry). l ++ (e.call ∷ [])) c.loop-said.invariant c.new.ensures
     ∙ sym (map-append (λ (s : Said). s.call) (take i script) (get_or script i blank ∷ []))

@@ -8,4 +8,4 @@ returns-else-k-lt64 c = rw c.if-radix-eq2.true (past_word c.args.n c.args.k c.if
 
 pub returns-else-radix-eq2 : goal.returns-else-radix-eq2
 returns-else-radix-eq2 c =
-    wrapped_product c.args.n (c.args.radix ^ c.args.k) c.wrapping-pow.result c.wrapping-pow.ensures
+    wrapped_product c.args.n (c.args.radix ^ c.args.k) c.wrapping_pow.result c.wrapping_pow.ensures

@@ -13,8 +13,8 @@ loop-power-init c = elim c.if-self-n.branch [
   | else-self-n w ↦ rw (w.power-is, w.count-is) (counting_start c.args.self.radix c.args.n)
 ]
 
-pub overflow-mul-power : goal.overflow-mul-power
-overflow-mul-power c = record {
+pub overflow_mul-power : goal.overflow_mul-power
+overflow_mul-power c = record {
   fits =
       omega (
         arith,

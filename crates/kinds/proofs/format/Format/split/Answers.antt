@@ -10,11 +10,11 @@ some-unit c =
     subst (λ (u : ℕ). 0 < u) (sym c.in-Some.ensures.1)
     (power_pos c.args.self.radix c.args.k c.args.self.radix_two)
 
-pub nonzero-div-result : goal.nonzero-div-result
-nonzero-div-result c = some-unit c
+pub nonzero_div-result : goal.nonzero_div-result
+nonzero_div-result c = some-unit c
 
-pub nonzero-rem-result : goal.nonzero-rem-result
-nonzero-rem-result c = some-unit c
+pub nonzero_rem-result : goal.nonzero_rem-result
+nonzero_rem-result c = some-unit c
 
 pub returns-then-k-ge64 : goal.returns-then-k-ge64
 returns-then-k-ge64 c =
