@@ -3,4 +3,4 @@ use Rattle.std.proofs.Common.{refl, ◌∙◌}
 use Rattle.checked_calls.proofs.made.Goals as goal
 
 pub returns : goal.returns
-returns c = λ says gives. record { by = refl; call = refl; says = c.answer-of.ensures ∙ gives }
+returns c = λ says gives. record { by = refl; call = refl; says = c.answer_of.ensures ∙ gives }

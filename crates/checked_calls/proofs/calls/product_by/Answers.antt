@@ -4,4 +4,4 @@ use Rattle.checked_calls.proofs.calls.product_by.Goals as goal
 
 pub returns : goal.returns
 unfolding product_of
-returns g c = c.complex-product.ensures
+returns g c = c.complex_product.ensures

@@ -8,11 +8,11 @@ use Rattle.console_demo.proofs.consoles.made_by.Goals as goal
 pub returns : goal.returns
 returns c =
     let v = c.in_ok-entries.entries in
-    let kept = c.run-by.auto.entries in
-    let long : length c.run-by.new.entries ≡ v.len = omega (arith, kept, c.as-mut-slice.ensures.len) in
-    let same = with_items_is v c.run-by.new.entries long in
-    let calls = ap calls_of c.as-mut-slice.ensures.value ∙ c.in_ok-entries.ensures in
+    let kept = c.run_by.auto.entries in
+    let long : length c.run_by.new.entries ≡ v.len = omega (arith, kept, c.as_mut_slice.ensures.len) in
+    let same = with_items_is v c.run_by.new.entries long in
+    let calls = ap calls_of c.as_mut_slice.ensures.value ∙ c.in_ok-entries.ensures in
     record {
-      calls = ap calls_of same ∙ c.run-by.ensures.calls ∙ calls;
-      answers = ap answers_of same ∙ c.run-by.ensures.answers ∙ ap (answers_by c.args.by) calls;
+      calls = ap calls_of same ∙ c.run_by.ensures.calls ∙ calls;
+      answers = ap answers_of same ∙ c.run_by.ensures.answers ∙ ap (answers_by c.args.by) calls;
     }

@@ -3,10 +3,10 @@ use Rattle.std.proofs.Common.{arith}
 use Rattle.integers.proofs.Rises.{below_double, rise_of}
 use Rattle.integers.proofs.sum.aligned.Goals as goal
 
-pub aligned-at-requires : goal.aligned-at-requires
-aligned-at-requires c =
+pub aligned_at-requires : goal.aligned_at-requires
+aligned_at-requires c =
     let up = rise_of c.args.format.radix c.args.format.precision c.args.high.size
-    c.abs-diff-distance.result c.room.result c.args.format.kind (omega arith)
+    c.abs_diff-distance.result c.room.result c.args.format.kind (omega arith)
     (below_double c.args.format.radix c.args.format.precision c.args.format.top c.args.high.size
     c.args.format.top_is c.requires.sizes.0) c.room.ensures.is in
     record {

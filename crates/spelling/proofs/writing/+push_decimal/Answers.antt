@@ -5,8 +5,8 @@ use Rattle.std.proofs.lemmas.List.{append_assoc}
 use Rattle.spelling.proofs.Digits.{decimal_last, length_last, length_step}
 use Rattle.spelling.proofs.writing.+push_decimal.Goals as goal
 
-pub push-decimal-requires : goal.push-decimal-requires
-push-decimal-requires t c = search (rules, length_step)
+pub push_decimal-requires : goal.push_decimal-requires
+push_decimal-requires t c = search (rules, length_step)
 
 pub push-requires : goal.push-requires
 push-requires t c = search (rules, length_last, length_step)

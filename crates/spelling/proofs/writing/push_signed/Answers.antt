@@ -3,8 +3,8 @@ use Rattle.std.proofs.Common.{append_assoc, rules}
 use Rattle.spelling.proofs.Digits.{length_word, signed_below, signed_above}
 use Rattle.spelling.proofs.writing.push_signed.Goals as goal
 
-pub push-decimal-requires : goal.push-decimal-requires
-push-decimal-requires c = search (rules, length_word)
+pub push_decimal-requires : goal.push_decimal-requires
+push_decimal-requires c = search (rules, length_word)
 
 pub returns : goal.returns
 returns c = search (rules, length_word, signed_below, signed_above, append_assoc)
