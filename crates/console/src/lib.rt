@@ -40,16 +40,16 @@ pub struct Reading {
 impl<M: Method> Console<M> {
     // What is proved of a new console.
     fn new_law(method: &M)
-        ensures { TrackHistory Arith-as-Kind.beta Arith-as-Kind.prec
+        ensures { TrackHistory M.Arith.Kind.beta M.Arith.Kind.prec
             (M.Method.num method.now) (M.Method.den method.now)
-            [] (replicate 10 (fresh_lane Arith-as-Kind.beta Arith-as-Kind.prec)) }
+            [] (replicate 10 (fresh_lane M.Arith.Kind.beta M.Arith.Kind.prec)) }
     {}
 
     // A console with ten fresh lanes. They track the empty history.
     pub fn new(method: M) -> Self
         ensures method { result.method ≡ method }
-        ensures lanes { view result.lanes ≡ replicate 10 (fresh_lane Arith-as-Kind.beta Arith-as-Kind.prec) }
-        ensures track { TrackHistory Arith-as-Kind.beta Arith-as-Kind.prec (M.Method.num method)
+        ensures lanes { view result.lanes ≡ replicate 10 (fresh_lane M.Arith.Kind.beta M.Arith.Kind.prec) }
+        ensures track { TrackHistory M.Arith.Kind.beta M.Arith.Kind.prec (M.Method.num method)
             (M.Method.den method) [] (view result.lanes) }
     {
         Self::new_law(&method);

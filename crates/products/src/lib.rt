@@ -32,7 +32,7 @@ pub fn sum<M: Method>(
     c: Figure,
     d: Figure,
 ) -> Result<Figure, Refusal>
-    ensures { coded result ≡ unless (faults Arith-as-Kind.beta Arith-as-Kind.prec a b c d)
+    ensures { coded result ≡ unless (faults M.Arith.Kind.beta M.Arith.Kind.prec a b c d)
         (M.Method.answer method.now a b c d) }
 {
     method.apply(a, b, c, d)
@@ -46,7 +46,7 @@ pub fn determinant<M: Method>(
     c: Figure,
     d: Figure,
 ) -> Result<Figure, Refusal>
-    ensures { coded result ≡ unless (faults Arith-as-Kind.beta Arith-as-Kind.prec a b c d)
+    ensures { coded result ≡ unless (faults M.Arith.Kind.beta M.Arith.Kind.prec a b c d)
         (M.Method.answer method.now a d (opposite b) c) }
 {
     stays_accepted::<M::Arith>(a, b, c, d);
@@ -64,7 +64,7 @@ pub fn complex_product<M: Method>(
     c: Figure,
     d: Figure,
 ) -> Result<(Figure, Figure), Refusal>
-    ensures { coded result ≡ unless (faults Arith-as-Kind.beta Arith-as-Kind.prec a b c d)
+    ensures { coded result ≡ unless (faults M.Arith.Kind.beta M.Arith.Kind.prec a b c d)
         (M.Method.answer method.now a c (opposite b) d, M.Method.answer method.now a d b c) }
 {
     stays_accepted::<M::Arith>(a, b, c, d);
