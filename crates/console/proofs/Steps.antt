@@ -1,7 +1,7 @@
 -- The steps of a turn refuse by the turn's first fault, and else give the turned lane.
-use Rattle.std.proofs.Common.{◌≡◌, ℕ, ◌+◌, List, Some, None, Ok, Err, Option, Result, sym, refl, ap, ◌∙◌, arith}
+use Rattle.std.proofs.Common.{◌≡◌, ℕ, ◌+◌, List, Some, None, Ok, Option, Result, refl, ap, ◌∙◌}
 use Rattle.rounding.specs.declared.Figure.{Figure}
-use Rattle.rounding.specs.Refusals.{first, unless, kept, after}
+use Rattle.rounding.specs.Refusals.{first, unless, after}
 use Rattle.figures.specs.Figures.{opposite}
 use Rattle.bounds.specs.Fours.{fault, faults}
 use Rattle.phasors.specs.declared.Phasor.{Phasor}
@@ -9,7 +9,7 @@ use Rattle.phasors.specs.Phasors.{Function, product_by}
 use Rattle.lanes.specs.declared.Lane.{Lane}
 use Rattle.lanes.specs.Lanes.{at}
 use Rattle.lanes.specs.Turning.{no_lane, full, strayed, turned_by, lane_fault, turn_fault}
-use Rattle.console.specs.Steps.{phasor_of, product_steps, lane_steps, turn_steps}
+use Rattle.console.specs.Steps.{phasor_of, lane_steps, turn_steps}
 
 -- one step more: its fault comes before those of the steps behind it
 before : {X Y : Type 0} (o u : Option ℕ) (x : X) (y : Y) (next : X → Result Y ℕ) → next x ≡ unless u y

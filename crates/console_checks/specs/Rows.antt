@@ -3,7 +3,6 @@ use Rattle.std.specs.Prelude.{ℕ, ℤ, Ok, Err, Result}
 use Rattle.rounding.specs.declared.Figure.{Figure}
 use Rattle.histories.specs.declared.Call.{Call}
 use Rattle.histories.specs.declared.Call.TheVariants as call
-use Rattle.console.specs.declared.Reading.{Reading}
 use Rattle.runs.specs.declared.Answer.{Answer}
 use Rattle.runs.specs.declared.Answer.TheVariants as answer
 use Rattle.console_checks.specs.declared.rows.Asked.{Asked}

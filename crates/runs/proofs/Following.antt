@@ -1,5 +1,5 @@
 -- The answer to every call keeps track and follows from the calls before it.
-use Rattle.std.proofs.Common.{◌≡◌, ℕ, ◌+◌, ◌<◌, Bool, true, false, cond, ltb, ◌⊎◌, List, Some, None, Ok, Err, Option, Result, sym, refl, ap, ◌∙◌, subst, inl, inr, arith}
+use Rattle.std.proofs.Common.{◌≡◌, ℕ, ◌+◌, ◌<◌, Bool, true, false, cond, ltb, ◌⊎◌, List, Some, None, Ok, Err, Option, Result, sym, refl, ap, ◌∙◌, subst, inl, inr}
 use Rattle.rounding.specs.declared.Figure.{Figure}
 use Rattle.rounding.specs.declared.Refusal.TheVariants.{LaneFull, PhasorRange}
 use Rattle.rounding.specs.Operations.{reaches}
@@ -12,17 +12,17 @@ use Rattle.phasors.specs.declared.Phasor.{Phasor}
 use Rattle.phasors.specs.Phasors.{Function, product_by}
 use Rattle.lanes.specs.declared.Lane.{Lane}
 use Rattle.lanes.specs.Lanes.{at}
-use Rattle.lanes.specs.Turning.{no_lane, full, far, strayed, lane_fault, turn_fault, after_turn}
+use Rattle.lanes.specs.Turning.{no_lane, far, strayed, turn_fault}
 use Rattle.histories.specs.declared.Call.{Call}
 use Rattle.histories.specs.declared.Call.TheVariants.{Sum, Determinant, Product, Turn, Restart, Read}
-use Rattle.histories.specs.Histories.{History, Course, course}
-use Rattle.histories.specs.Tracking.{Tracks, TrackHistory, event, is_refused, KeepsTrack}
+use Rattle.histories.specs.Histories.{History, course}
+use Rattle.histories.specs.Tracking.{TrackHistory, event, is_refused, KeepsTrack}
 use Rattle.histories.proofs.Faults.{lane_there}
 use Rattle.histories.proofs.Tracking.{Reliable, still, restart_keeps_track, turn_keeps_track}
 use Rattle.console.specs.Readings.{reading_of}
 use Rattle.runs.specs.declared.Answer.{Answer}
-use Rattle.runs.specs.declared.Answer.TheVariants.{Value, Count, Shown}
-use Rattle.runs.specs.Answers.{mapped, parts, answer_to, lanes_after}
+use Rattle.runs.specs.declared.Answer.TheVariants.{Count, Shown}
+use Rattle.runs.specs.Answers.{mapped, answer_to, lanes_after}
 use Rattle.runs.specs.Following.{foreseen, TurnFollows, ReadingFollows, Follows, CallLaw}
 
 -- a case of `Answer` changes nothing of a refusal

@@ -27,7 +27,7 @@ pub enum Answer {
     Shown(Reading),
 }
 
-// A call, and its answer once it was made.
+// A call with its answer once it was made.
 #[derive(Clone, Copy)]
 pub struct Entry {
     pub call: Call,

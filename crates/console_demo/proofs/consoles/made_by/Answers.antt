@@ -1,5 +1,5 @@
 -- The vector holds what the run left in its slice.
-use Rattle.std.proofs.Common.{◌≡◌, length, vec_items, sym, ap, ◌∙◌, arith}
+use Rattle.std.proofs.Common.{◌≡◌, length, ap, ◌∙◌, arith}
 use Rattle.std.proofs.lemmas.List.{with_items_is}
 use Rattle.runs.specs.Entries.{calls_of, answers_of}
 use Rattle.console_demo.specs.Scripts.{answers_by}
