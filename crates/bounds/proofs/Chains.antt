@@ -1,5 +1,6 @@
 -- Of an accepted four no operation of either method refuses, and every step lies in a known range.
-use Rattle.std.proofs.Common.{◌≡◌, ℕ, ◌+◌, ◌-◌, ◌*◌, ◌^◌, ◌<◌, ◌≤◌, Bool, true, cond, ltb, ℤ, pos, ◌+ℤ◌, nat_abs, ◌≤ℤ◌, Ok, Result, sym, ap, ◌∙◌, subst, inl, inr, arith}
+use Rattle.std.proofs.Common.{◌≡◌, ℕ, ◌+◌, ◌-◌, ◌*◌, ◌^◌, ◌<◌, ◌≤◌, Bool, true, cond, ltb, ℤ, pos, ◌+ℤ◌, nat_abs}
+use Rattle.std.proofs.Common.{◌≤ℤ◌, Ok, Result, sym, ap, ◌∙◌, subst, inl, inr, arith}
 use borrow.Author.Differences.{ints}
 use Rattle.std.proofs.lemmas.Bool.Decides.{nat_tests}
 use Rattle.whole.proofs.Powers.{power_pos}

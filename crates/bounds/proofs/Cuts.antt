@@ -1,6 +1,7 @@
 -- Rounding on the natural numbers, and its laws: t below β B is kept; any other is cut at a unit V = β^(k+1)
 -- that leaves B ≤ n < β B units, and is n or n + 1 of them, whichever is nearer, in a tie the even one.
-use Rattle.std.proofs.Common.{◌≡◌, ℕ, zero, suc, ◌+◌, ◌*◌, ◌%◌, ◌^◌, ◌<◌, ◌≤◌, ◌⊎◌, sym, refl, ap, ◌∙◌, subst, ap₂, inl, inr, mul-le-mul_right, mul-le-mul, mul-le-mul_left, arith}
+use Rattle.std.proofs.Common.{◌≡◌, ℕ, zero, suc, ◌+◌, ◌*◌, ◌%◌, ◌^◌, ◌<◌, ◌≤◌, ◌⊎◌, sym, refl, ap, ◌∙◌, subst, ap₂}
+use Rattle.std.proofs.Common.{inl, inr, mul-le-mul_right, mul-le-mul, mul-le-mul_left, arith}
 use Prim.Native.Nat.{◌∣◌}
 use native.Mathlib.Nat.{pow-zero}
 use native.Mathlib.Nat.{dvd_trans, dvd-mul_left, dvd-zero, one-dvd, dvd-add_iff_right, le_of_dvd}

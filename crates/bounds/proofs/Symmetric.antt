@@ -1,5 +1,7 @@
 -- The symmetric method: both products rounded, then rn (rn (rn X + rn Y) + rn (both errors)) is within 1/B of X + Y.
-use Rattle.std.proofs.Common.{◌≡◌, ℕ, suc, ◌+◌, ◌*◌, ◌^◌, ◌<◌, ◌≤◌, ◌⊎◌, ℤ, pos, negsuc, ◌+ℤ◌, ◌-ℤ◌, neg_ℤ, nat_abs, ◌≤ℤ◌, ◌<ℤ◌, sym, ap, ◌∙◌, subst, inl, inr, mul-le-mul_right, mul-le-mul, mul-le-mul_left, arith}
+use Rattle.std.proofs.Common.{◌≡◌, ℕ, suc, ◌+◌, ◌*◌, ◌^◌, ◌<◌, ◌≤◌, ◌⊎◌, ℤ, pos, negsuc, ◌+ℤ◌, ◌-ℤ◌, neg_ℤ, nat_abs}
+use Rattle.std.proofs.Common.{◌≤ℤ◌, ◌<ℤ◌, sym, ap, ◌∙◌, subst, inl, inr, mul-le-mul_right, mul-le-mul}
+use Rattle.std.proofs.Common.{mul-le-mul_left, arith}
 use native.Mathlib.Nat.{dvd_trans}
 use lib.IntN.{+ℤ_comm}
 use borrow.Author.Differences.{ints}

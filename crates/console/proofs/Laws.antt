@@ -53,7 +53,8 @@ module _ (β p : ℕ) (kind : IsKind β p) (N D : ℕ) (ls : List Lane) where
 
     module _ (m : Function) (law : Reliable β p N D m) (c d : Figure) where
       stopped : (n : ℕ) → Err n ≡ turn_steps β p m ls i c d → turn_fault β p m ls i c d ≡ Some n
-      stopped n e = refused (turn_fault β p m ls i c d) (turned_by m (at ls i) c d) n (e ∙ turn_steps_lem β p m ls i c d)
+      stopped n e =
+          refused (turn_fault β p m ls i c d) (turned_by m (at ls i) c d) n (e ∙ turn_steps_lem β p m ls i c d)
 
       went : (l : Lane) → Ok l ≡ turn_steps β p m ls i c d
           → (turn_fault β p m ls i c d ≡ None) × (l ≡ turned_by m (at ls i) c d)
@@ -63,7 +64,8 @@ module _ (β p : ℕ) (kind : IsKind β p) (N D : ℕ) (ls : List Lane) where
       unfolding after_turn
       turn_law = record {
         refused = λ n e. refused_alike (turn_fault β p m ls i c d) ((at ls i).count + 1) n (stopped n e);
-        left = λ n e. refused_keeps (turn_fault β p m ls i c d) ls (put ls i (turned_by m (at ls i) c d)) n (stopped n e);
+        left = λ n e.
+            refused_keeps (turn_fault β p m ls i c d) ls (put ls i (turned_by m (at ls i) c d)) n (stopped n e);
         turned = λ l e.
             ap (λ (k : Lane). counted k.count) (went l e).1
             ∙ answered_alike (turn_fault β p m ls i c d) ((at ls i).count + 1) (went l e).0;

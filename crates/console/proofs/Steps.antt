@@ -23,7 +23,8 @@ last (Some e) x f = refl
 last None x f = refl
 
 module _ (β p : ℕ) (m : Function) where
-  lane_steps_lem : (l : Lane) (c d : Figure) → lane_steps β p m l c d ≡ unless (lane_fault β p m l c d) (turned_by m l c d)
+  lane_steps_lem : (l : Lane) (c d : Figure)
+      → lane_steps β p m l c d ≡ unless (lane_fault β p m l c d) (turned_by m l c d)
   lane_steps_lem l c d =
       before (full l) (first taken (strayed (product_by m w c d))) l (turned_by m l c d) _
       (ap (λ (r : Result Phasor ℕ). after r (λ v. after (unless (strayed v) v) settled)) (last taken pair phasor_of)

@@ -14,7 +14,7 @@ pub mod arithmetic;
 // Whether f is zero, with s = 0 and q = 0, or has all digits of the kind and an exponent in -2000..2000.
 pub fn is_figure(format: Format, f: Figure) -> bool
     ensures is { result ≡ is_figure format.radix format.precision f }
-    ensures small { ((result ≡ true → nat_abs f.s < format.top)) × ((result ≡ true → nat_abs f.q ≤ 2000)) }
+    ensures small { (result ≡ true → nat_abs f.s < format.top) × (result ≡ true → nat_abs f.q ≤ 2000) }
 {
     let size = f.s.unsigned_abs() as u64;
     if size == 0 {

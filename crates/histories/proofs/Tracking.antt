@@ -1,5 +1,7 @@
 -- The lanes of a new console track the empty history, and every call keeps track.
-use Rattle.std.proofs.Common.{◌≡◌, ℕ, ◌+◌, ◌<◌, Bool, true, false, cond, eqb, ltb, ◌≢◌, List, [], ◌∷◌, length, set, replicate, Some, None, Option, sym, refl, ap, ◌∙◌, subst, ⊎_elim, arith, length-set, get_or-set_other, get_or-set_same}
+use Rattle.std.proofs.Common.{◌≡◌, ℕ, ◌+◌, ◌<◌, Bool, true, false, cond, eqb, ltb, ◌≢◌, List, [], ◌∷◌, length, set}
+use Rattle.std.proofs.Common.{replicate, Some, None, Option, sym, refl, ap, ◌∙◌, subst, ⊎_elim, arith, length-set}
+use Rattle.std.proofs.Common.{get_or-set_other, get_or-set_same}
 use lib.ListN.{get_or-replicate}
 use Rattle.std.proofs.lemmas.Bool.Decides.{eqb_tells, nat_tests}
 use Rattle.rounding.specs.declared.Figure.{Figure}
@@ -98,10 +100,11 @@ module _ (β p : ℕ) (kind : IsKind β p) (N D : ℕ) where
   pub restart_keeps_track : {X : Type 0} (x : X) (ls : List Lane) (j : ℕ)
       → KeepsTrack β p N D (event (Restart j) (unless (no_lane j) x)) ls (after_restart β p ls j)
   unfolding after_restart
-  restart_keeps_track x ls j = by_fault (Restart j) x ls (put ls j (fresh_lane β p)) (no_lane j) (λ none h track. record {
-    ten = ten_put ls j (fresh_lane β p) track.ten;
-    each = replaced ls j (fresh_lane β p) (λ s. begun) h (lane_there j none) track fresh_tracks;
-  })
+  restart_keeps_track x ls j =
+      by_fault (Restart j) x ls (put ls j (fresh_lane β p)) (no_lane j) (λ none h track. record {
+        ten = ten_put ls j (fresh_lane β p) track.ten;
+        each = replaced ls j (fresh_lane β p) (λ s. begun) h (lane_there j none) track fresh_tracks;
+      })
 
   module _ (m : Function) (law : Reliable β p N D m) where
     -- an accepted turn by c + di

@@ -1,5 +1,6 @@
 -- What joining two sizes by their signs says of the exact sum, in any units fine enough for what lies below.
-use Rattle.std.proofs.Common.{◌≡◌, ℕ, ◌+◌, ◌-◌, ◌*◌, ◌<◌, ◌≤◌, Bool, true, false, cond, not, eqb, ltb, ◌⊎◌, ◌+ℤ◌, sym, refl, ap, subst, inl, inr, arith}
+use Rattle.std.proofs.Common.{◌≡◌, ℕ, ◌+◌, ◌-◌, ◌*◌, ◌<◌, ◌≤◌, Bool, true, false, cond, not, eqb, ltb, ◌⊎◌, ◌+ℤ◌, sym}
+use Rattle.std.proofs.Common.{refl, ap, subst, inl, inr, arith}
 use mathlib.Core.Bool.{beq}
 use borrow.Author.Differences.{ints}
 use Rattle.std.proofs.lemmas.Bool.{cases_lt}

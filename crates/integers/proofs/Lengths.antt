@@ -1,5 +1,6 @@
 -- Numbers of d digits brought to p digits: by zeros appended, or by digits dropped.
-use Rattle.std.proofs.Common.{◌≡◌, ℕ, ◌+◌, ◌-◌, ◌*◌, ◌/◌, ◌%◌, ◌^◌, ◌<◌, ◌≤◌, sym, subst, mul-le-mul_right, mod-lt, div-lt_iff_lt-mul, div-add-mod', le-div_iff_mul-le, arith}
+use Rattle.std.proofs.Common.{◌≡◌, ℕ, ◌+◌, ◌-◌, ◌*◌, ◌/◌, ◌%◌, ◌^◌, ◌<◌, ◌≤◌, sym, subst, mul-le-mul_right, mod-lt}
+use Rattle.std.proofs.Common.{div-lt_iff_lt-mul, div-add-mod', le-div_iff_mul-le, arith}
 use Rattle.whole.proofs.Powers.{power_pos, power_order, power_even, power_parts}
 use Rattle.rounding.specs.Digits.{digits}
 use Rattle.rounding.proofs.Digits.{digits_some, digits_high, digits_low}

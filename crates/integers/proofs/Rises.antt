@@ -1,5 +1,6 @@
 -- How far a number is brought up: it stays in a word, and where it stops short it has more than 2 p digits.
-use Rattle.std.proofs.Common.{◌≡◌, ℕ, ◌+◌, ◌-◌, ◌*◌, ◌^◌, ◌<◌, ◌≤◌, min, sym, refl, ◌∙◌, subst, ap₂, inl, inr, mul-le-mul_left, arith}
+use Rattle.std.proofs.Common.{◌≡◌, ℕ, ◌+◌, ◌-◌, ◌*◌, ◌^◌, ◌<◌, ◌≤◌, min, sym, refl, ◌∙◌, subst, ap₂, inl, inr}
+use Rattle.std.proofs.Common.{mul-le-mul_left, arith}
 use native.Mathlib.Nat.{min-le_left, min-le_right, min-eq_left, min-eq_right}
 use Rattle.std.proofs.lemmas.Bool.{cases_lt}
 use Rattle.whole.proofs.Powers.{power_le}

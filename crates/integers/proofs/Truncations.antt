@@ -1,5 +1,6 @@
 -- What a truncated number says of the exact number that it stands for.
-use Rattle.std.proofs.Common.{◌≡◌, ℕ, ◌+◌, ◌*◌, ◌^◌, ◌<◌, ◌≤◌, true, false, T, ℤ, pos, ◌+ℤ◌, sym, refl, ap, subst, arith}
+use Rattle.std.proofs.Common.{◌≡◌, ℕ, ◌+◌, ◌*◌, ◌^◌, ◌<◌, ◌≤◌, true, false, T, ℤ, pos, ◌+ℤ◌, sym, refl, ap, subst}
+use Rattle.std.proofs.Common.{arith}
 use native.Mathlib.Nat.{pow-zero}
 use borrow.Author.Differences.{ints}
 use Rattle.whole.proofs.Powers.{power_pos}

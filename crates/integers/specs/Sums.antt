@@ -1,5 +1,6 @@
 -- What the exact sum computes: two terms brought to one power, as far as a word has room, and joined by their signs.
-use Rattle.std.specs.Prelude.{ℕ, ◌+◌, ◌-◌, ◌*◌, ◌/◌, ◌%◌, ◌^◌, min, Bool, false, cond, not, ◌-ℤ◌, ◌==◌, nat_lt, unsigned_abs}
+use Rattle.std.specs.Prelude.{ℕ, ◌+◌, ◌-◌, ◌*◌, ◌/◌, ◌%◌, ◌^◌, min, Bool, false, cond, not, ◌-ℤ◌, ◌==◌, nat_lt}
+use Rattle.std.specs.Prelude.{unsigned_abs}
 use Rattle.std.specs.Bool.{beq}
 use Rattle.rounding.specs.Digits.{digits}
 use Rattle.integers.specs.declared.terms.Term.{Term}

@@ -1,5 +1,6 @@
 -- What the radix and the precision of a kind say of its powers: how large they are, and that words have room for them.
-use Rattle.std.proofs.Common.{◌≡◌, ℕ, zero, suc, ◌+◌, ◌-◌, ◌*◌, ◌^◌, ◌<◌, ◌≤◌, sym, ap, ◌∙◌, inl, inr, mul-le-mul_right, mul-le-mul, pow-suc, mul-zero, sub-add_cancel, add-one, arith}
+use Rattle.std.proofs.Common.{◌≡◌, ℕ, zero, suc, ◌+◌, ◌-◌, ◌*◌, ◌^◌, ◌<◌, ◌≤◌, sym, ap, ◌∙◌, inl, inr}
+use Rattle.std.proofs.Common.{mul-le-mul_right, mul-le-mul, pow-suc, mul-zero, sub-add_cancel, add-one, arith}
 use Rattle.std.proofs.lemmas.Bool.{cases_lt}
 use Rattle.whole.proofs.Powers.{power_pos, power_le, power_below, power_one, power_split, power_parts}
 use Rattle.kinds.specs.Kinds.{IsKind}

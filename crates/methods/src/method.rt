@@ -37,5 +37,6 @@ pub trait Method {
         → unsigned_abs (answer m a b c d).q ≤ 500 };
 
     ghost near: { (m : Self) (a b c d : Figure) → Accepted Self.Arith.Kind.beta Self.Arith.Kind.prec a b c d
-        → Within Self.Arith.Kind.beta (num m) (den m) (value (answer m a b c d)) (exact_sum Self.Arith.Kind.beta a b c d) };
+        → Within Self.Arith.Kind.beta (num m) (den m) (value (answer m a b c d))
+        (exact_sum Self.Arith.Kind.beta a b c d) };
 }

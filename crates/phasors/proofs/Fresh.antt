@@ -1,5 +1,6 @@
 -- One and zero: both are figures that a method accepts, and they stand for the exact number one.
-use Rattle.std.proofs.Common.{◌≡◌, ℕ, ◌+◌, ◌-◌, ◌*◌, ◌^◌, ◌<◌, ◌≤◌, Bool, true, cond, ◌&&◌, eqb, ltb, leb, ℤ, pos, ◌-ℤ◌, nat_abs, ◌≤ℤ◌, Some, None, sym, ap, ◌∙◌, subst, ap₂, arith, pow-add}
+use Rattle.std.proofs.Common.{◌≡◌, ℕ, ◌+◌, ◌-◌, ◌*◌, ◌^◌, ◌<◌, ◌≤◌, Bool, true, cond, ◌&&◌, eqb, ltb, leb, ℤ, pos}
+use Rattle.std.proofs.Common.{◌-ℤ◌, nat_abs, ◌≤ℤ◌, Some, None, sym, ap, ◌∙◌, subst, ap₂, arith, pow-add}
 use borrow.Author.Differences.{ints}
 use Rattle.std.proofs.lemmas.Bool.Decides.{nat_tests}
 use Rattle.whole.proofs.Comparisons.{size_same}
@@ -54,7 +55,8 @@ module _ (β p : ℕ) (kind : IsKind β p) where
       nothing (distance β k (value (one_figure β p)) (real_part unity))
       (distance β k (value zero_figure) (imaginary_part unity))
       (D ^ (2 * 0)) (square ((D + N) ^ 0 - D ^ 0) * length² β k unity)
-      (ap (λ (x : ℤ). nat_abs (x -ℤ units β k (real_part unity))) (one_is k kr) ∙ size_same (units β k (real_part unity)))
+      (ap (λ (x : ℤ). nat_abs (x -ℤ units β k (real_part unity))) (one_is k kr)
+      ∙ size_same (units β k (real_part unity)))
       (size_same (units β k (imaginary_part unity)))
     where
       nothing : (a b F W : ℕ) → a ≡ 0 → b ≡ 0 → (a * a + b * b) * F ≤ W

@@ -1,5 +1,6 @@
 -- Gaussian whole numbers a + bi: lengths of products and sums, and one turn of a phasor.
-use Rattle.std.proofs.Common.{◌≡◌, ℕ, ◌+◌, ◌-◌, ◌*◌, ◌≤◌, [], ◌∷◌, ℤ, pos, negsuc, ◌+ℤ◌, ◌-ℤ◌, ◌*ℤ◌, nat_abs, sym, refl, ap, ◌∙◌, subst, ap₂, arith}
+use Rattle.std.proofs.Common.{◌≡◌, ℕ, ◌+◌, ◌-◌, ◌*◌, ◌≤◌, [], ◌∷◌, ℤ, pos, negsuc, ◌+ℤ◌, ◌-ℤ◌, ◌*ℤ◌, nat_abs, sym}
+use Rattle.std.proofs.Common.{refl, ap, ◌∙◌, subst, ap₂, arith}
 use Rattle.whole.proofs.Linear.{lin}
 use Rattle.whole.proofs.Identities.{identity, reads}
 use Rattle.phasors.proofs.Lengths.{AtMost, parts_within, turn_within}

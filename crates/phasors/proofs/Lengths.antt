@@ -1,5 +1,6 @@
 -- Bounds on lengths without roots: a length is known by its square, and an inner product by its size.
-use Rattle.std.proofs.Common.{◌≡◌, ℕ, ◌+◌, ◌-◌, ◌*◌, ◌≤◌, sym, ap, subst, inl, inr, mul-le-mul_right, mul-le-mul, mul-le-mul_left, arith}
+use Rattle.std.proofs.Common.{◌≡◌, ℕ, ◌+◌, ◌-◌, ◌*◌, ◌≤◌, sym, ap, subst, inl, inr, mul-le-mul_right, mul-le-mul}
+use Rattle.std.proofs.Common.{mul-le-mul_left, arith}
 use Rattle.std.proofs.lemmas.Bool.{cases_lt}
 
 -- f times the length whose square is u is at most a times the length whose square is v

@@ -1,5 +1,6 @@
 -- One turn of a phasor, with exponents: counted in fine units it is a turn on whole numbers.
-use Rattle.std.proofs.Common.{◌≡◌, ℕ, ◌+◌, ◌-◌, ◌*◌, ◌^◌, ◌≤◌, [], ◌∷◌, ℤ, pos, ◌+ℤ◌, ◌-ℤ◌, ◌*ℤ◌, nat_abs, ◌≤ℤ◌, sym, ap, ◌∙◌, subst, ap₂, mul-le-mul, pow-suc, add-one, arith, pow-add}
+use Rattle.std.proofs.Common.{◌≡◌, ℕ, ◌+◌, ◌-◌, ◌*◌, ◌^◌, ◌≤◌, [], ◌∷◌, ℤ, pos, ◌+ℤ◌, ◌-ℤ◌, ◌*ℤ◌, nat_abs, ◌≤ℤ◌, sym}
+use Rattle.std.proofs.Common.{ap, ◌∙◌, subst, ap₂, mul-le-mul, pow-suc, add-one, arith, pow-add}
 use native.Mathlib.Nat.{pow-le-pow_left}
 use borrow.Author.Differences.{ints}
 use Rattle.std.specs.Int.{int_min}

@@ -1,5 +1,7 @@
 -- A number n > 0 has the one number of digits d with β^(d-1) ≤ n < β^d.
-use Rattle.std.proofs.Common.{◌≡◌, ℕ, zero, suc, ◌-◌, ◌*◌, ◌/◌, ◌^◌, ◌<◌, ◌≤◌, Bool, true, false, not, T, ltb, ◌⊎◌, sym, refl, ap, subst, inl, inr, le_refl, div-lt_iff_lt-mul, pow-suc, le-div_iff_mul-le, arith, ltb→lt, nltb→le}
+use Rattle.std.proofs.Common.{◌≡◌, ℕ, zero, suc, ◌-◌, ◌*◌, ◌/◌, ◌^◌, ◌<◌, ◌≤◌, Bool, true, false, not, T, ltb, ◌⊎◌}
+use Rattle.std.proofs.Common.{sym, refl, ap, subst, inl, inr, le_refl, div-lt_iff_lt-mul, pow-suc, le-div_iff_mul-le}
+use Rattle.std.proofs.Common.{arith, ltb→lt, nltb→le}
 use native.Mathlib.Nat.{pow-zero, div-lt_self}
 use Rattle.whole.proofs.Powers.{power_pos, power_order, power_one}
 use Rattle.rounding.specs.Digits.{digits_within, digits}

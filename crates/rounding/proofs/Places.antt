@@ -1,5 +1,6 @@
 -- Where a whole number lies on the grid of a unit V, and which multiple of V it is rounded to.
-use Rattle.std.proofs.Common.{◌≡◌, ℕ, suc, ◌+◌, ◌-◌, ◌*◌, ◌%◌, ◌^◌, ◌<◌, ◌≤◌, Bool, cond, ltb, ◌⊎◌, sym, ap, ◌∙◌, subst, ap₂, inl, inr, mul-le-mul_right, mul-le-mul_left, pow-suc, arith}
+use Rattle.std.proofs.Common.{◌≡◌, ℕ, suc, ◌+◌, ◌-◌, ◌*◌, ◌%◌, ◌^◌, ◌<◌, ◌≤◌, Bool, cond, ltb, ◌⊎◌, sym, ap, ◌∙◌}
+use Rattle.std.proofs.Common.{subst, ap₂, inl, inr, mul-le-mul_right, mul-le-mul_left, pow-suc, arith}
 use Rattle.std.proofs.lemmas.Bool.{cases_lt}
 use Rattle.std.proofs.lemmas.Bool.Decides.{nat_tests}
 use Rattle.whole.proofs.Powers.{power_le, power_split}

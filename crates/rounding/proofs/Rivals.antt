@@ -1,6 +1,7 @@
 -- On whole numbers: the rounded multiple of the unit is nearest, and only the other neighbour can be as near,
 -- in a tie.
-use Rattle.std.proofs.Common.{◌≡◌, ℕ, suc, ◌+◌, ◌-◌, ◌*◌, ◌%◌, ◌^◌, ◌<◌, ◌≤◌, ◌⊎◌, sym, ap, ◌∙◌, inl, inr, mul-le-mul_right, mul_assoc, mul-le-mul_left, mul-lt-mul_of_pos_right, pow-suc, arith}
+use Rattle.std.proofs.Common.{◌≡◌, ℕ, suc, ◌+◌, ◌-◌, ◌*◌, ◌%◌, ◌^◌, ◌<◌, ◌≤◌, ◌⊎◌, sym, ap, ◌∙◌, inl, inr}
+use Rattle.std.proofs.Common.{mul-le-mul_right, mul_assoc, mul-le-mul_left, mul-lt-mul_of_pos_right, pow-suc, arith}
 use Rattle.std.proofs.lemmas.Bool.{cases_lt}
 use Rattle.whole.proofs.Comparisons.{order}
 use Rattle.whole.proofs.Distances.{gap}

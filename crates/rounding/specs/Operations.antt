@@ -1,5 +1,6 @@
 -- What multiply, add and fused answer: the exact result rounded once, or the first refusal.
-use Rattle.std.specs.Prelude.{ℕ, ◌-◌, ◌^◌, Bool, cond, ◌&&◌, Some, None, Option, Result, ◌==◌, nat_le, nat_lt, unsigned_abs}
+use Rattle.std.specs.Prelude.{ℕ, ◌-◌, ◌^◌, Bool, cond, ◌&&◌, Some, None, Option, Result, ◌==◌, nat_le, nat_lt}
+use Rattle.std.specs.Prelude.{unsigned_abs}
 use Rattle.rounding.specs.declared.Figure.{Figure}
 use Rattle.rounding.specs.declared.Refusal.TheVariants.{NoFigure, ResultRange}
 use Rattle.rounding.specs.Exact.{Exact, value, product, plus}

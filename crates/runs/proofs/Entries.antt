@@ -1,5 +1,7 @@
 -- Lists of entries: one answer more in a loop over them, and the law over a whole run.
-use Rattle.std.proofs.Common.{◌≡◌, ℕ, zero, suc, ◌+◌, ◌<◌, ◌≤◌, List, [], ◌∷◌, ◌++◌, length, get_or, take, drop, set, replicate, Ok, Result, sym, refl, ap, ◌∙◌, subst, append-nil, le_of_suc-le-suc, not-suc-le-zero, add-one, take_all}
+use Rattle.std.proofs.Common.{◌≡◌, ℕ, zero, suc, ◌+◌, ◌<◌, ◌≤◌, List, [], ◌∷◌, ◌++◌, length, get_or, take, drop, set}
+use Rattle.std.proofs.Common.{replicate, Ok, Result, sym, refl, ap, ◌∙◌, subst, append-nil, le_of_suc-le-suc}
+use Rattle.std.proofs.Common.{not-suc-le-zero, add-one, take_all}
 use Rattle.std.proofs.lemmas.List.{drop_all}
 use Rattle.rounding.specs.declared.Refusal.{Refusal}
 use Rattle.rounding.specs.Refusals.{coded}

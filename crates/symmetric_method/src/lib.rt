@@ -8,7 +8,8 @@ ghost use Rattle.rounding.specs.Errors.{Within};
 ghost use Rattle.rounding.specs.Refusals.{unless, coded};
 ghost use Rattle.bounds.specs.Fours.{faults, Accepted, exact_sum, limit_num, limit_den};
 ghost use Rattle.bounds.specs.Symmetric.{symmetric, symmetric_steps};
-ghost use Rattle.bounds.proofs.Answers.{limit_some, symmetric_at_limit, symmetric_figure, symmetric_range, symmetric_limit};
+ghost use Rattle.bounds.proofs.Answers.{limit_some, symmetric_at_limit, symmetric_figure, symmetric_range};
+ghost use Rattle.bounds.proofs.Answers.{symmetric_limit};
 
 use figures::arithmetic::BinaryArithmetic;
 use figures::opposite;

@@ -1,5 +1,6 @@
 -- Laws of ℤ that the library lacks: associativity and distributivity of the product, and sizes of products.
-use Rattle.std.proofs.Common.{◌≡◌, ℕ, suc, ◌+◌, ◌*◌, ℤ, pos, negsuc, ◌+ℤ◌, ◌*ℤ◌, neg_ℤ, nat_abs, sym, refl, ap, ◌∙◌, ap₂, arith}
+use Rattle.std.proofs.Common.{◌≡◌, ℕ, suc, ◌+◌, ◌*◌, ℤ, pos, negsuc, ◌+ℤ◌, ◌*ℤ◌, neg_ℤ, nat_abs, sym, refl, ap, ◌∙◌}
+use Rattle.std.proofs.Common.{ap₂, arith}
 use borrow.Author.Differences.{up, down, same_in, sum_is_lem, neg_is, product_is, ints}
 use lib.IntN.{*ℤ_comm}
 

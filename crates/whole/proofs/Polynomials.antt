@@ -1,6 +1,7 @@
 -- Expressions over ℤ are brought to polynomials by computation; those whose difference is the zero polynomial are
 -- equal.
-use Rattle.std.proofs.Common.{◌≡◌, ℕ, zero, suc, Bool, true, false, T, eqb, leb, List, [], ◌∷◌, ℤ, pos, negsuc, ◌+ℤ◌, ◌*ℤ◌, neg_ℤ, sym, refl, ap, ◌∙◌, subst, ap₂, arith, eqb→eq}
+use Rattle.std.proofs.Common.{◌≡◌, ℕ, zero, suc, Bool, true, false, T, eqb, leb, List, [], ◌∷◌, ℤ, pos, negsuc, ◌+ℤ◌}
+use Rattle.std.proofs.Common.{◌*ℤ◌, neg_ℤ, sym, refl, ap, ◌∙◌, subst, ap₂, arith, eqb→eq}
 use Prim.Native.Nat.{compare, Ordering}
 use lib.Dec.{compare_is_eq}
 use lib.IntN.{*ℤ_comm, *ℤ-zero, zero-*ℤ, +ℤ_comm, +ℤ_assoc, +ℤ_idl, +ℤ_idr}
@@ -112,7 +113,8 @@ same_order (i ∷ m) (j ∷ n) t = go (same_order m n) (compare i j) refl t
         → (i ∷ m) ≡ (j ∷ n)
     go rest Ordering.lt e t = absurd t
     go rest Ordering.eq e t =
-        ap₂ (λ (x : ℕ) (y : List ℕ). x ∷ y) (eqb→eq i j (subst (λ (o : Ordering). T (compare_is_eq o)) (sym e) tt)) (rest t)
+        ap₂ (λ (x : ℕ) (y : List ℕ). x ∷ y) (eqb→eq i j (subst (λ (o : Ordering). T (compare_is_eq o)) (sym e) tt))
+        (rest t)
     go rest Ordering.gt e t = absurd t
 
 module _ (ρ : List ℤ) where

@@ -1,5 +1,6 @@
 -- One call more: the entry that is pushed has the next call of the script.
-use Rattle.std.proofs.Common.{◌<◌, List, [], ◌∷◌, ◌++◌, length, get_or, take, vec_items, sym, ap, ◌∙◌, ap₂, arith, rules}
+use Rattle.std.proofs.Common.{◌<◌, List, [], ◌∷◌, ◌++◌, length, get_or, take, vec_items, sym, ap, ◌∙◌, ap₂, arith}
+use Rattle.std.proofs.Common.{rules}
 use Rattle.std.proofs.lemmas.List.{take_more, map-append, take_all}
 use Rattle.rounding.specs.Rounding.{zero_figure}
 use Rattle.histories.specs.declared.Call.{Call}
