@@ -9,8 +9,8 @@ pub mod format;
 pub mod powers;
 
 // A kind of figures: its radix, its precision in digits, and the letter that marks its figures in text.
-// Generic proofs cannot read an associated constant, so each has a ghost member for clauses and laws, and a function
-// that reads the constant and promises that it is the ghost member.
+// Clauses, laws and proofs name each constant by a ghost member, and code over every kind reads it through a function,
+// which promises that it answers the ghost member.
 pub trait Kind {
     const RADIX: u32;
 
