@@ -51,12 +51,20 @@ fn entries_of(heap: Global, script: &[Said]) -> Result<Vec<Entry>, AllocError>
     Ok(entries)
 }
 
+// The entries with the answers of a new console beside their calls.
+fn answered(by: Arrangement, mut entries: Vec<Entry>) -> Vec<Entry>
+    ensures calls { calls_of result.items ≡ calls_of entries.items }
+    ensures answers { answers_of result.items ≡ answers_by by (calls_of entries.items) }
+{
+    run_by(by, entries.as_mut_slice());
+    entries
+}
+
 // The calls of a script, made of a new console, with their answers.
 pub fn made_by(heap: Global, by: Arrangement, script: &[Said]) -> Result<Vec<Entry>, AllocError>
     ensures calls { IfOk result (λ v. calls_of v.items ≡ said_calls script.now) }
     ensures answers { IfOk result (λ v. answers_of v.items ≡ answers_by by (said_calls script.now)) }
 {
-    let mut entries = entries_of(heap, script)?;
-    run_by(by, entries.as_mut_slice());
-    Ok(entries)
+    let entries = entries_of(heap, script)?;
+    Ok(answered(by, entries))
 }
