@@ -5,7 +5,8 @@
 
 A name is respelled where it stands as a whole word: in specs/ and proofs/, in sources, in the edits that must fail, and
 in the documents between backticks. Names with a dash are left alone in comments, where they may be plain words.
-Functions of src/, strings, inputs and outputs have none of the old names."""
+Functions of src/, strings, inputs and outputs have none of the old names. docs/PORT.md, which tells the old names, is
+left alone."""
 import pathlib
 import re
 import sys
@@ -20,8 +21,7 @@ def respelled(text):
 
 
 def respelled_comment(text):
-    keep = lambda word: word.group(0) if "-" in word.group(0) else NAMES.get(word.group(0), word.group(0))
-    return WORD.sub(keep, text)
+    return WORD.sub(lambda word: word.group(0) if "-" in word.group(0) else respelled(word.group(0)), text)
 
 
 def with_comments(text, mark):
@@ -44,9 +44,17 @@ def turned(path, text):
 
 def main():
     top = pathlib.Path(sys.argv[1] if sys.argv[1:] else ".")
-    patterns = ["crates/*/specs/**/*.antt", "crates/*/proofs/**/*.antt", "crates/*/src/**/*.rt", "crates/*/must-fail/*.edit",
-                "docs/*.md", "README.md"]
+    patterns = [
+        "crates/*/specs/**/*.antt",
+        "crates/*/proofs/**/*.antt",
+        "crates/*/src/**/*.rt",
+        "crates/*/must-fail/*.edit",
+        "docs/*.md",
+        "README.md",
+    ]
     for path in sorted(path for pattern in patterns for path in top.glob(pattern)):
+        if path.name == "PORT.md":
+            continue
         old = path.read_text()
         new = turned(path, old)
         if new != old:
