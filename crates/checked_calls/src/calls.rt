@@ -52,7 +52,7 @@ pub struct Answered {
 
 // Makes a call by any method and its arithmetic.
 fn perform<M: Method>(method: &M, call: Call) -> Result<Figure, Refusal>
-    ensures { coded result ≡ answer M.Arith.Kind.beta M.Arith.Kind.prec
+    ensures { coded result ≡ answer M.Arith.RADIX M.Arith.PRECISION
         (M.Method.answer method.now) call }
 {
     match call {
@@ -66,7 +66,7 @@ fn perform<M: Method>(method: &M, call: Call) -> Result<Figure, Refusal>
 
 // The same, with its answer kept shut: what the arrangements below choose is the method, not the call.
 fn performed<M: Method>(method: &M, call: Call) -> Result<Figure, Refusal>
-    ensures { coded result ≡ answered M.Arith.Kind.beta M.Arith.Kind.prec
+    ensures { coded result ≡ answered M.Arith.RADIX M.Arith.PRECISION
         (M.Method.answer method.now) call }
 {
     perform(method, call)
@@ -91,7 +91,7 @@ fn product_by<M: Method>(
     c: Figure,
     d: Figure,
 ) -> Result<(Figure, Figure), Refusal>
-    ensures { coded result ≡ product_of M.Arith.Kind.beta M.Arith.Kind.prec
+    ensures { coded result ≡ product_of M.Arith.RADIX M.Arith.PRECISION
         (M.Method.answer method.now) a b c d }
 {
     complex_product(method, a, b, c, d)

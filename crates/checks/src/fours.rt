@@ -17,7 +17,7 @@ use symmetric_method::Symmetric;
 
 // Passes only where every call on the operands of the row has the row's answer.
 fn row_stands<M: Method>(method: &M, row: &Four) -> Result<(), Fail>
-    ensures { OnOk result (Stands M.Arith.Kind.beta M.Arith.Kind.prec (M.Method.answer method.now)
+    ensures { OnOk result (Stands M.Arith.RADIX M.Arith.PRECISION (M.Method.answer method.now)
         (figure_of row.now.a) (figure_of row.now.b)
         (figure_of row.now.c) (figure_of row.now.d)
         (figure_of row.now.sum) (figure_of row.now.determinant)
@@ -70,7 +70,7 @@ fn four_refused<M: Method>(
     d: Figure,
     code: u8,
 ) -> Result<(), Fail>
-    ensures { OnOk result (faults M.Arith.Kind.beta M.Arith.Kind.prec a b c d ≡ Some code) }
+    ensures { OnOk result (faults M.Arith.RADIX M.Arith.PRECISION a b c d ≡ Some code) }
 {
     refuses(sum(method, a, b, c, d), code)?;
     refuses(determinant(method, a, b, c, d), code)?;
@@ -84,10 +84,10 @@ fn refused_in_each_place<M: Method>(
     bad: Figure,
     code: u8,
 ) -> Result<(), Fail>
-    ensures { OnOk result ((faults M.Arith.Kind.beta M.Arith.Kind.prec bad good good good ≡ Some code)
-        × (faults M.Arith.Kind.beta M.Arith.Kind.prec good bad good good ≡ Some code)
-        × (faults M.Arith.Kind.beta M.Arith.Kind.prec good good bad good ≡ Some code)
-        × (faults M.Arith.Kind.beta M.Arith.Kind.prec good good good bad ≡ Some code)) }
+    ensures { OnOk result ((faults M.Arith.RADIX M.Arith.PRECISION bad good good good ≡ Some code)
+        × (faults M.Arith.RADIX M.Arith.PRECISION good bad good good ≡ Some code)
+        × (faults M.Arith.RADIX M.Arith.PRECISION good good bad good ≡ Some code)
+        × (faults M.Arith.RADIX M.Arith.PRECISION good good good bad ≡ Some code)) }
 {
     four_refused(method, bad, good, good, good, code)?;
     four_refused(method, good, bad, good, good, code)?;
@@ -103,12 +103,12 @@ fn refused_by_the_first<M: Method>(
     y: Figure,
     code: u8,
 ) -> Result<(), Fail>
-    ensures { OnOk result ((faults M.Arith.Kind.beta M.Arith.Kind.prec x y good good ≡ Some code)
-        × (faults M.Arith.Kind.beta M.Arith.Kind.prec x good y good ≡ Some code)
-        × (faults M.Arith.Kind.beta M.Arith.Kind.prec x good good y ≡ Some code)
-        × (faults M.Arith.Kind.beta M.Arith.Kind.prec good x y good ≡ Some code)
-        × (faults M.Arith.Kind.beta M.Arith.Kind.prec good x good y ≡ Some code)
-        × (faults M.Arith.Kind.beta M.Arith.Kind.prec good good x y ≡ Some code)) }
+    ensures { OnOk result ((faults M.Arith.RADIX M.Arith.PRECISION x y good good ≡ Some code)
+        × (faults M.Arith.RADIX M.Arith.PRECISION x good y good ≡ Some code)
+        × (faults M.Arith.RADIX M.Arith.PRECISION x good good y ≡ Some code)
+        × (faults M.Arith.RADIX M.Arith.PRECISION good x y good ≡ Some code)
+        × (faults M.Arith.RADIX M.Arith.PRECISION good x good y ≡ Some code)
+        × (faults M.Arith.RADIX M.Arith.PRECISION good good x y ≡ Some code)) }
 {
     four_refused(method, x, y, good, good, code)?;
     four_refused(method, x, good, y, good, code)?;

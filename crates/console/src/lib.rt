@@ -40,16 +40,16 @@ pub struct Reading {
 impl<M: Method> Console<M> {
     // What is proved of a new console.
     fn new_law(method: &M)
-        ensures { TrackHistory M.Arith.Kind.beta M.Arith.Kind.prec
+        ensures { TrackHistory M.Arith.RADIX M.Arith.PRECISION
             (M.Method.num method.now) (M.Method.den method.now)
-            [] (replicate 10 (fresh_lane M.Arith.Kind.beta M.Arith.Kind.prec)) }
+            [] (replicate 10 (fresh_lane M.Arith.RADIX M.Arith.PRECISION)) }
     {}
 
     // A console with ten fresh lanes. They track the empty history.
     pub fn new(method: M) -> Self
         ensures method { result.method ≡ method }
-        ensures lanes { view result.lanes ≡ replicate 10 (fresh_lane M.Arith.Kind.beta M.Arith.Kind.prec) }
-        ensures track { TrackHistory M.Arith.Kind.beta M.Arith.Kind.prec (M.Method.num method)
+        ensures lanes { view result.lanes ≡ replicate 10 (fresh_lane M.Arith.RADIX M.Arith.PRECISION) }
+        ensures track { TrackHistory M.Arith.RADIX M.Arith.PRECISION (M.Method.num method)
             (M.Method.den method) [] (view result.lanes) }
     {
         Self::new_law(&method);
@@ -61,16 +61,16 @@ impl<M: Method> Console<M> {
 
     // What is proved of a sum, a determinant and a complex product.
     fn four_law(&self, a: Figure, b: Figure, c: Figure, d: Figure)
-        ensures { FourLaw M.Arith.Kind.beta M.Arith.Kind.prec
+        ensures { FourLaw M.Arith.RADIX M.Arith.PRECISION
             (M.Method.num self.now.method) (M.Method.den self.now.method)
             (M.Method.answer self.now.method) (view self.now.lanes) a b c d }
     {}
 
     // ab + cd. No lane changes.
     pub fn sum(&self, a: Figure, b: Figure, c: Figure, d: Figure) -> Result<Figure, Refusal>
-        ensures answer { coded result ≡ unless (faults M.Arith.Kind.beta M.Arith.Kind.prec a b c d)
+        ensures answer { coded result ≡ unless (faults M.Arith.RADIX M.Arith.PRECISION a b c d)
             (M.Method.answer self.now.method a b c d) }
-        ensures track { KeepsTrack M.Arith.Kind.beta M.Arith.Kind.prec
+        ensures track { KeepsTrack M.Arith.RADIX M.Arith.PRECISION
             (M.Method.num self.now.method) (M.Method.den self.now.method)
             (event (Sum a b c d) (coded result))
             (view self.now.lanes) (view self.now.lanes) }
@@ -81,9 +81,9 @@ impl<M: Method> Console<M> {
 
     // ad - bc. No lane changes.
     pub fn determinant(&self, a: Figure, b: Figure, c: Figure, d: Figure) -> Result<Figure, Refusal>
-        ensures answer { coded result ≡ unless (faults M.Arith.Kind.beta M.Arith.Kind.prec a b c d)
+        ensures answer { coded result ≡ unless (faults M.Arith.RADIX M.Arith.PRECISION a b c d)
             (M.Method.answer self.now.method a d (opposite b) c) }
-        ensures track { KeepsTrack M.Arith.Kind.beta M.Arith.Kind.prec
+        ensures track { KeepsTrack M.Arith.RADIX M.Arith.PRECISION
             (M.Method.num self.now.method) (M.Method.den self.now.method)
             (event (Determinant a b c d) (coded result))
             (view self.now.lanes) (view self.now.lanes) }
@@ -100,11 +100,11 @@ impl<M: Method> Console<M> {
         c: Figure,
         d: Figure,
     ) -> Result<(Figure, Figure), Refusal>
-        ensures answer { coded result ≡ unless (faults M.Arith.Kind.beta M.Arith.Kind.prec a b c d) (
+        ensures answer { coded result ≡ unless (faults M.Arith.RADIX M.Arith.PRECISION a b c d) (
           M.Method.answer self.now.method a c (opposite b) d,
           M.Method.answer self.now.method a d b c,
         ) }
-        ensures track { KeepsTrack M.Arith.Kind.beta M.Arith.Kind.prec
+        ensures track { KeepsTrack M.Arith.RADIX M.Arith.PRECISION
             (M.Method.num self.now.method) (M.Method.den self.now.method)
             (event (Product a b c d) (coded result))
             (view self.now.lanes) (view self.now.lanes) }
@@ -125,7 +125,7 @@ impl<M: Method> Console<M> {
 
     // The lane of this number, turned by c + di.
     fn turned_lane(&self, lane: u8, c: Figure, d: Figure) -> Result<Lane, Refusal>
-        ensures { coded result ≡ turn_steps M.Arith.Kind.beta M.Arith.Kind.prec
+        ensures { coded result ≡ turn_steps M.Arith.RADIX M.Arith.PRECISION
             (M.Method.answer self.now.method) (view self.now.lanes) lane c d }
     {
         let old = self.lane(lane)?;
@@ -137,7 +137,7 @@ impl<M: Method> Console<M> {
 
     // What is proved of a turn.
     fn turn_law(&self, lane: u8, c: Figure, d: Figure)
-        ensures { TurnLaw M.Arith.Kind.beta M.Arith.Kind.prec
+        ensures { TurnLaw M.Arith.RADIX M.Arith.PRECISION
             (M.Method.num self.now.method) (M.Method.den self.now.method)
             (M.Method.answer self.now.method) (view self.now.lanes) lane c d }
     {}
@@ -145,13 +145,13 @@ impl<M: Method> Console<M> {
     // Turns a lane by c + di: its phasor becomes its complex product with c + di, and its count, which is
     // the answer, rises by one.
     pub fn turn(&mut self, lane: u8, c: Figure, d: Figure) -> Result<u32, Refusal>
-        ensures answer { coded result ≡ unless (turn_fault M.Arith.Kind.beta M.Arith.Kind.prec
+        ensures answer { coded result ≡ unless (turn_fault M.Arith.RADIX M.Arith.PRECISION
             (M.Method.answer self.old.method) (view self.old.lanes) lane c d)
             ((at (view self.old.lanes) lane).count + 1) }
-        ensures lanes { view self.new.lanes ≡ after_turn M.Arith.Kind.beta M.Arith.Kind.prec
+        ensures lanes { view self.new.lanes ≡ after_turn M.Arith.RADIX M.Arith.PRECISION
             (M.Method.answer self.old.method) (view self.old.lanes) lane c d }
         ensures method { self.new.method ≡ self.old.method }
-        ensures track { KeepsTrack M.Arith.Kind.beta M.Arith.Kind.prec
+        ensures track { KeepsTrack M.Arith.RADIX M.Arith.PRECISION
             (M.Method.num self.old.method) (M.Method.den self.old.method)
             (event (Turn lane c d) (coded result))
             (view self.old.lanes) (view self.new.lanes) }
@@ -164,7 +164,7 @@ impl<M: Method> Console<M> {
 
     // What is proved of a restart.
     fn restart_law(&self, lane: u8)
-        ensures { RestartLaw M.Arith.Kind.beta M.Arith.Kind.prec
+        ensures { RestartLaw M.Arith.RADIX M.Arith.PRECISION
             (M.Method.num self.now.method) (M.Method.den self.now.method)
             (view self.now.lanes) lane }
     {}
@@ -172,10 +172,10 @@ impl<M: Method> Console<M> {
     // Makes a lane fresh again, and answers its count.
     pub fn restart(&mut self, lane: u8) -> Result<u32, Refusal>
         ensures answer { coded result ≡ unless (no_lane lane) 0 }
-        ensures lanes { view self.new.lanes ≡ after_restart M.Arith.Kind.beta M.Arith.Kind.prec
+        ensures lanes { view self.new.lanes ≡ after_restart M.Arith.RADIX M.Arith.PRECISION
             (view self.old.lanes) lane }
         ensures method { self.new.method ≡ self.old.method }
-        ensures track { KeepsTrack M.Arith.Kind.beta M.Arith.Kind.prec
+        ensures track { KeepsTrack M.Arith.RADIX M.Arith.PRECISION
             (M.Method.num self.old.method) (M.Method.den self.old.method)
             (event (Restart lane) (coded result))
             (view self.old.lanes) (view self.new.lanes) }
@@ -189,7 +189,7 @@ impl<M: Method> Console<M> {
 
     // What is proved of a reading.
     fn reading_law(&self, lane: u8)
-        ensures { ReadingLaw M.Arith.Kind.beta M.Arith.Kind.prec
+        ensures { ReadingLaw M.Arith.RADIX M.Arith.PRECISION
             (M.Method.num self.now.method) (M.Method.den self.now.method)
             (view self.now.lanes) lane }
     {}
@@ -198,11 +198,11 @@ impl<M: Method> Console<M> {
     pub fn read(&self, lane: u8) -> Result<Reading, Refusal>
         ensures answer { coded result ≡ unless (no_lane lane)
             (reading_of (at (view self.now.lanes) lane)) }
-        ensures track { KeepsTrack M.Arith.Kind.beta M.Arith.Kind.prec
+        ensures track { KeepsTrack M.Arith.RADIX M.Arith.PRECISION
             (M.Method.num self.now.method) (M.Method.den self.now.method)
             (event (Read lane) (coded result))
             (view self.now.lanes) (view self.now.lanes) }
-        ensures report { ReportsTrack M.Arith.Kind.beta M.Arith.Kind.prec
+        ensures report { ReportsTrack M.Arith.RADIX M.Arith.PRECISION
             (M.Method.num self.now.method) (M.Method.den self.now.method)
             (view self.now.lanes) lane (coded result) }
     {

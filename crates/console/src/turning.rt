@@ -66,7 +66,7 @@ fn product_by<M: Method>(
     c: Figure,
     d: Figure,
 ) -> Result<Phasor, Refusal>
-    ensures { coded result ≡ product_steps M.Arith.Kind.beta M.Arith.Kind.prec
+    ensures { coded result ≡ product_steps M.Arith.RADIX M.Arith.PRECISION
         (M.Method.answer method.now) phasor c d }
 {
     let (real, imaginary) = complex_product(method, phasor.real, phasor.imaginary, c, d)?;
@@ -80,7 +80,7 @@ pub(crate) fn turned<M: Method>(
     c: Figure,
     d: Figure,
 ) -> Result<Lane, Refusal>
-    ensures { coded result ≡ lane_steps M.Arith.Kind.beta M.Arith.Kind.prec
+    ensures { coded result ≡ lane_steps M.Arith.RADIX M.Arith.PRECISION
         (M.Method.answer method.now) lane c d }
 {
     let old = with_room(lane)?;

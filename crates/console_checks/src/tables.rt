@@ -19,7 +19,7 @@ use symmetric_method::Symmetric;
 
 // Makes the call of a row, and passes only where it has the row's answer.
 pub fn row_stands<M: Method>(console: &mut Console<M>, asked: Asked, told: Told) -> Result<(), Fail>
-    ensures { OnOk result (answer_to M.Arith.Kind.beta M.Arith.Kind.prec
+    ensures { OnOk result (answer_to M.Arith.RADIX M.Arith.PRECISION
         (M.Method.answer console.old.method) (view console.old.lanes) (call_of asked)
         ≡ answer_of told) }
 {

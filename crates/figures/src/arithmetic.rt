@@ -9,20 +9,20 @@ use rounding::{Figure, Refusal};
 // Each operation answers the exact result rounded once, or the first refusal.
 pub trait Arithmetic: Kind {
     fn multiply(x: Figure, y: Figure) -> Result<Figure, Refusal>
-        ensures { coded result ≡ multiplied Self.Kind.beta Self.Kind.prec x y };
+        ensures { coded result ≡ multiplied Self.RADIX Self.PRECISION x y };
 
     fn add(x: Figure, y: Figure) -> Result<Figure, Refusal>
-        ensures { coded result ≡ added Self.Kind.beta Self.Kind.prec x y };
+        ensures { coded result ≡ added Self.RADIX Self.PRECISION x y };
 
     // x × y + z
     fn fused(x: Figure, y: Figure, z: Figure) -> Result<Figure, Refusal>
-        ensures { coded result ≡ fused_sum Self.Kind.beta Self.Kind.prec x y z };
+        ensures { coded result ≡ fused_sum Self.RADIX Self.PRECISION x y z };
 }
 
 // An arithmetic at radix 2. The function hands the fact to code, the law to proofs.
 pub trait BinaryArithmetic: Arithmetic {
     fn radix_two() -> u32
-        ensures { (result ≡ 2) × (Self.Kind.beta ≡ 2) };
+        ensures { (result ≡ 2) × (Self.RADIX ≡ 2) };
 
-    ghost radix: { Self.Kind.beta ≡ 2 };
+    ghost radix: { Self.RADIX ≡ 2 };
 }

@@ -26,7 +26,7 @@ pub fn is_figure(format: Format, f: Figure) -> bool
 
 // One: the least significand at the exponent that makes it 1.
 pub fn one<K: Kind>() -> Figure
-    ensures { result ≡ one_figure K.Kind.beta K.Kind.prec }
+    ensures { result ≡ one_figure K.RADIX K.PRECISION }
 {
     let format = Format::of::<K>();
     Figure {

@@ -32,25 +32,13 @@ impl<K: Kind> Kind for Integers<K> {
 
     const MARK: u8 = K::MARK;
 
-    ghost beta = { K.Kind.beta };
+    ghost RADIX = { K.RADIX };
 
-    ghost prec = { K.Kind.prec };
+    ghost PRECISION = { K.PRECISION };
 
-    ghost letter = { K.Kind.letter };
+    ghost MARK = { K.MARK };
 
-    ghost kind = { Prim.search rules };
-
-    fn read_radix() -> u32 {
-        K::read_radix()
-    }
-
-    fn read_precision() -> u32 {
-        K::read_precision()
-    }
-
-    fn read_mark() -> u8 {
-        K::read_mark()
-    }
+    ghost kind = { K.kind };
 }
 
 // The figure, unless its exponent is outside -2000..2000.
@@ -98,6 +86,6 @@ impl BinaryArithmetic for Integers<Binary> {
     ghost radix = { Prim.search rules };
 
     fn radix_two() -> u32 {
-        Self::read_radix()
+        Self::RADIX
     }
 }

@@ -1,16 +1,14 @@
 // Kinds of figures, and everything that knows powers of their radix.
 #![tactic(auto)]
 
-ghost use Rattle.std.specs.Prelude.{◌≡◌, ℕ};
-ghost use Rattle.kinds.specs.Kinds.{IsKind};
-ghost use Rattle.std.proofs.Common.{rules};
+ghost use Rattle.std.specs.Prelude.{ℕ};
+ghost use Rattle.kinds.specs.Kinds.{IsKind, binary_is_kind, decimal_is_kind};
 
 pub mod format;
 pub mod powers;
 
-// A kind of figures: its radix, its precision in digits, and the letter that marks its figures in text.
-// Clauses, laws and proofs name each constant by a ghost member, and code over every kind reads it through a function,
-// which promises that it answers the ghost member.
+// A kind of figures: its radix, its precision in digits, and the letter that marks its figures in text. Clauses, laws
+// and proofs name each constant by the ghost member of the same name.
 pub trait Kind {
     const RADIX: u32;
 
@@ -18,22 +16,13 @@ pub trait Kind {
 
     const MARK: u8;
 
-    ghost beta: { ℕ };
+    ghost RADIX: { ℕ };
 
-    ghost prec: { ℕ };
+    ghost PRECISION: { ℕ };
 
-    ghost letter: { ℕ };
+    ghost MARK: { ℕ };
 
-    fn read_radix() -> u32
-        ensures { result ≡ beta };
-
-    fn read_precision() -> u32
-        ensures { result ≡ prec };
-
-    fn read_mark() -> u8
-        ensures { result ≡ letter };
-
-    ghost kind: { IsKind beta prec };
+    ghost kind: { IsKind RADIX PRECISION };
 }
 
 // 24 binary digits, marked p.
@@ -47,25 +36,13 @@ impl Kind for Binary {
 
     const MARK: u8 = b'p';
 
-    ghost beta = { 2 };
+    ghost RADIX = { 2 };
 
-    ghost prec = { 24 };
+    ghost PRECISION = { 24 };
 
-    ghost letter = { 112 };
+    ghost MARK = { 112 };
 
-    ghost kind = { Prim.search rules };
-
-    fn read_radix() -> u32 {
-        Self::RADIX
-    }
-
-    fn read_precision() -> u32 {
-        Self::PRECISION
-    }
-
-    fn read_mark() -> u8 {
-        Self::MARK
-    }
+    ghost kind = { binary_is_kind };
 }
 
 // Seven decimal digits, marked e.
@@ -79,23 +56,11 @@ impl Kind for Decimal {
 
     const MARK: u8 = b'e';
 
-    ghost beta = { 10 };
+    ghost RADIX = { 10 };
 
-    ghost prec = { 7 };
+    ghost PRECISION = { 7 };
 
-    ghost letter = { 101 };
+    ghost MARK = { 101 };
 
-    ghost kind = { Prim.search rules };
-
-    fn read_radix() -> u32 {
-        Self::RADIX
-    }
-
-    fn read_precision() -> u32 {
-        Self::PRECISION
-    }
-
-    fn read_mark() -> u8 {
-        Self::MARK
-    }
+    ghost kind = { decimal_is_kind };
 }

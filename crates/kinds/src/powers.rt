@@ -42,10 +42,10 @@ impl Format {
 
     // The form of a kind's significands.
     pub fn of<K: Kind>() -> Format
-        ensures radix { result.radix ≡ K.Kind.beta }
-        ensures precision { result.precision ≡ K.Kind.prec }
+        ensures radix { result.radix ≡ K.Kind.RADIX }
+        ensures precision { result.precision ≡ K.Kind.PRECISION }
     {
-        Format::with(K::read_radix() as u64, K::read_precision())
+        Format::with(K::RADIX as u64, K::PRECISION)
     }
 
     // n split at radix^k: the number of its digits above, and that of the digits below. From 2^64 on a power is past

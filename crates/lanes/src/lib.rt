@@ -64,7 +64,7 @@ impl Lanes {
 
 // A lane that was not yet turned: one and zero.
 pub fn fresh_lane<K: Kind>() -> Lane
-    ensures { result ≡ fresh_lane K.Kind.beta K.Kind.prec }
+    ensures { result ≡ fresh_lane K.RADIX K.PRECISION }
 {
     Lane {
         phasor: Phasor {

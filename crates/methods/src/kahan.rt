@@ -24,7 +24,7 @@ pub struct Kahan<A> {
 
 // The four operations, each of which may refuse.
 fn steps<A: Arithmetic>(a: Figure, b: Figure, c: Figure, d: Figure) -> Result<Figure, Refusal>
-    ensures { coded result ≡ kahan_steps A.Kind.beta A.Kind.prec a b c d }
+    ensures { coded result ≡ kahan_steps A.RADIX A.PRECISION a b c d }
 {
     let w = A::multiply(c, d)?;
     let e = A::fused(c, d, opposite(w))?;
@@ -34,44 +34,44 @@ fn steps<A: Arithmetic>(a: Figure, b: Figure, c: Figure, d: Figure) -> Result<Fi
 
 // What is proved of the definitions: no step of an accepted four refuses, and the answer is near.
 fn answer_is_near<A: Arithmetic>(a: Figure, b: Figure, c: Figure, d: Figure)
-    ensures answer { Accepted A.Kind.beta A.Kind.prec a b c d
-        → kahan_steps A.Kind.beta A.Kind.prec a b c d ≡ Ok (kahan A.Kind.beta A.Kind.prec a b c d) }
-    ensures within { Accepted A.Kind.beta A.Kind.prec a b c d
-        → Within A.Kind.beta 1 (A.Kind.beta ^ (A.Kind.prec - 1))
-        (value (kahan A.Kind.beta A.Kind.prec a b c d)) (exact_sum A.Kind.beta a b c d) }
-    ensures places { Accepted A.Kind.beta A.Kind.prec a b c d
-        → WithinPlaces A.Kind.beta A.Kind.prec (A.Kind.beta + 1) 2
-        (value (kahan A.Kind.beta A.Kind.prec a b c d)) (exact_sum A.Kind.beta a b c d) }
+    ensures answer { Accepted A.RADIX A.PRECISION a b c d
+        → kahan_steps A.RADIX A.PRECISION a b c d ≡ Ok (kahan A.RADIX A.PRECISION a b c d) }
+    ensures within { Accepted A.RADIX A.PRECISION a b c d
+        → Within A.RADIX 1 (A.RADIX ^ (A.PRECISION - 1))
+        (value (kahan A.RADIX A.PRECISION a b c d)) (exact_sum A.RADIX a b c d) }
+    ensures places { Accepted A.RADIX A.PRECISION a b c d
+        → WithinPlaces A.RADIX A.PRECISION (A.RADIX + 1) 2
+        (value (kahan A.RADIX A.PRECISION a b c d)) (exact_sum A.RADIX a b c d) }
     ensures last { UlpIsLastPlace }
 {}
 
 impl<A: Arithmetic> Method for Kahan<A> {
     type Arith = A;
 
-    ghost answer = { λ m. kahan A.Kind.beta A.Kind.prec };
+    ghost answer = { λ m. kahan A.RADIX A.PRECISION };
 
     ghost num = { λ m. 1 };
 
-    ghost den = { λ m. A.Kind.beta ^ (A.Kind.prec - 1) };
+    ghost den = { λ m. A.RADIX ^ (A.PRECISION - 1) };
 
     ghost positive = { Prim.search rules };
 
     ghost limit = { λ m. kahan_limit _ };
 
-    ghost figure = { λ m a b c d. kahan_figure _ _ A.Kind.kind a b c d };
+    ghost figure = { λ m a b c d. kahan_figure _ _ A.kind a b c d };
 
-    ghost range = { λ m a b c d. kahan_range _ _ A.Kind.kind a b c d };
+    ghost range = { λ m a b c d. kahan_range _ _ A.kind a b c d };
 
-    ghost near = { λ m a b c d. kahan_within _ _ A.Kind.kind a b c d };
+    ghost near = { λ m a b c d. kahan_within _ _ A.kind a b c d };
 
     // The answer is within 1/B of ab + cd, and within (β + 1)/2 units of its last place.
     fn apply(&self, a: Figure, b: Figure, c: Figure, d: Figure) -> Result<Figure, Refusal>
-        ensures answer { coded result ≡ unless (faults A.Kind.beta A.Kind.prec a b c d)
-            (kahan A.Kind.beta A.Kind.prec a b c d) }
-        ensures within { IfOk result (λ f. Within A.Kind.beta 1 (A.Kind.beta ^ (A.Kind.prec - 1))
-            (value f) (exact_sum A.Kind.beta a b c d)) }
-        ensures places { IfOk result (λ f. WithinPlaces A.Kind.beta A.Kind.prec (A.Kind.beta + 1) 2
-            (value f) (exact_sum A.Kind.beta a b c d)) }
+        ensures answer { coded result ≡ unless (faults A.RADIX A.PRECISION a b c d)
+            (kahan A.RADIX A.PRECISION a b c d) }
+        ensures within { IfOk result (λ f. Within A.RADIX 1 (A.RADIX ^ (A.PRECISION - 1))
+            (value f) (exact_sum A.RADIX a b c d)) }
+        ensures places { IfOk result (λ f. WithinPlaces A.RADIX A.PRECISION (A.RADIX + 1) 2
+            (value f) (exact_sum A.RADIX a b c d)) }
         ensures last { UlpIsLastPlace }
     {
         answer_is_near::<A>(a, b, c, d);

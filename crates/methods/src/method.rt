@@ -23,20 +23,20 @@ pub trait Method {
 
     // The answer to an accepted four; any other is refused by its first fault from the left.
     fn apply(&self, a: Figure, b: Figure, c: Figure, d: Figure) -> Result<Figure, Refusal>
-        ensures { coded result ≡ unless (faults Self.Arith.Kind.beta Self.Arith.Kind.prec a b c d)
+        ensures { coded result ≡ unless (faults Self.Arith.RADIX Self.Arith.PRECISION a b c d)
             (answer self.now a b c d) };
 
     ghost positive: { (m : Self) → 1 ≤ den m };
 
-    ghost limit: { (m : Self) → UpperLimit (Self.Arith.Kind.beta ^ (Self.Arith.Kind.prec - 1)) (num m) (den m) };
+    ghost limit: { (m : Self) → UpperLimit (Self.Arith.RADIX ^ (Self.Arith.PRECISION - 1)) (num m) (den m) };
 
-    ghost figure: { (m : Self) (a b c d : Figure) → Accepted Self.Arith.Kind.beta Self.Arith.Kind.prec a b c d
-        → is_figure Self.Arith.Kind.beta Self.Arith.Kind.prec (answer m a b c d) ≡ true };
+    ghost figure: { (m : Self) (a b c d : Figure) → Accepted Self.Arith.RADIX Self.Arith.PRECISION a b c d
+        → is_figure Self.Arith.RADIX Self.Arith.PRECISION (answer m a b c d) ≡ true };
 
-    ghost range: { (m : Self) (a b c d : Figure) → Accepted Self.Arith.Kind.beta Self.Arith.Kind.prec a b c d
+    ghost range: { (m : Self) (a b c d : Figure) → Accepted Self.Arith.RADIX Self.Arith.PRECISION a b c d
         → unsigned_abs (answer m a b c d).q ≤ 500 };
 
-    ghost near: { (m : Self) (a b c d : Figure) → Accepted Self.Arith.Kind.beta Self.Arith.Kind.prec a b c d
-        → Within Self.Arith.Kind.beta (num m) (den m) (value (answer m a b c d))
-        (exact_sum Self.Arith.Kind.beta a b c d) };
+    ghost near: { (m : Self) (a b c d : Figure) → Accepted Self.Arith.RADIX Self.Arith.PRECISION a b c d
+        → Within Self.Arith.RADIX (num m) (den m) (value (answer m a b c d))
+        (exact_sum Self.Arith.RADIX a b c d) };
 }

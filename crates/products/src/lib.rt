@@ -15,13 +15,13 @@ use rounding::{Figure, Refusal};
 
 // What is proved of an accepted four: the method accepts it in the orders in which it is given it below, b turned.
 fn stays_accepted<K: Kind>(a: Figure, b: Figure, c: Figure, d: Figure)
-    ensures turned { Accepted K.Kind.beta K.Kind.prec a b c d → flipped b ≡ opposite b }
-    ensures determinant { Accepted K.Kind.beta K.Kind.prec a b c d
-        → Accepted K.Kind.beta K.Kind.prec a d (opposite b) c }
-    ensures real { Accepted K.Kind.beta K.Kind.prec a b c d
-        → Accepted K.Kind.beta K.Kind.prec a c (opposite b) d }
-    ensures imaginary { Accepted K.Kind.beta K.Kind.prec a b c d
-        → Accepted K.Kind.beta K.Kind.prec a d b c }
+    ensures turned { Accepted K.RADIX K.PRECISION a b c d → flipped b ≡ opposite b }
+    ensures determinant { Accepted K.RADIX K.PRECISION a b c d
+        → Accepted K.RADIX K.PRECISION a d (opposite b) c }
+    ensures real { Accepted K.RADIX K.PRECISION a b c d
+        → Accepted K.RADIX K.PRECISION a c (opposite b) d }
+    ensures imaginary { Accepted K.RADIX K.PRECISION a b c d
+        → Accepted K.RADIX K.PRECISION a d b c }
 {}
 
 // ab + cd
@@ -32,7 +32,7 @@ pub fn sum<M: Method>(
     c: Figure,
     d: Figure,
 ) -> Result<Figure, Refusal>
-    ensures { coded result ≡ unless (faults M.Arith.Kind.beta M.Arith.Kind.prec a b c d)
+    ensures { coded result ≡ unless (faults M.Arith.RADIX M.Arith.PRECISION a b c d)
         (M.Method.answer method.now a b c d) }
 {
     method.apply(a, b, c, d)
@@ -46,7 +46,7 @@ pub fn determinant<M: Method>(
     c: Figure,
     d: Figure,
 ) -> Result<Figure, Refusal>
-    ensures { coded result ≡ unless (faults M.Arith.Kind.beta M.Arith.Kind.prec a b c d)
+    ensures { coded result ≡ unless (faults M.Arith.RADIX M.Arith.PRECISION a b c d)
         (M.Method.answer method.now a d (opposite b) c) }
 {
     stays_accepted::<M::Arith>(a, b, c, d);
@@ -64,7 +64,7 @@ pub fn complex_product<M: Method>(
     c: Figure,
     d: Figure,
 ) -> Result<(Figure, Figure), Refusal>
-    ensures { coded result ≡ unless (faults M.Arith.Kind.beta M.Arith.Kind.prec a b c d)
+    ensures { coded result ≡ unless (faults M.Arith.RADIX M.Arith.PRECISION a b c d)
         (M.Method.answer method.now a c (opposite b) d, M.Method.answer method.now a d b c) }
 {
     stays_accepted::<M::Arith>(a, b, c, d);

@@ -48,9 +48,9 @@ impl Entry {
 
 // The answer to a call.
 fn answer_to<M: Method>(console: &mut Console<M>, call: Call) -> Result<Answer, Refusal>
-    ensures answer { coded result ≡ answer_to M.Arith.Kind.beta M.Arith.Kind.prec
+    ensures answer { coded result ≡ answer_to M.Arith.RADIX M.Arith.PRECISION
         (M.Method.answer console.old.method) (view console.old.lanes) call }
-    ensures lanes { view console.new.lanes ≡ lanes_after M.Arith.Kind.beta M.Arith.Kind.prec
+    ensures lanes { view console.new.lanes ≡ lanes_after M.Arith.RADIX M.Arith.PRECISION
         (M.Method.answer console.old.method) (view console.old.lanes) call }
     ensures method { console.new.method ≡ console.old.method }
 {
@@ -69,22 +69,22 @@ fn answer_to<M: Method>(console: &mut Console<M>, call: Call) -> Result<Answer, 
 
 // What is proved of a call.
 fn call_law<M: Method>(console: &Console<M>, call: Call)
-    ensures { CallLaw M.Arith.Kind.beta M.Arith.Kind.prec (M.Method.num console.now.method)
+    ensures { CallLaw M.Arith.RADIX M.Arith.PRECISION (M.Method.num console.now.method)
         (M.Method.den console.now.method) (M.Method.answer console.now.method)
         (view console.now.lanes) call }
 {}
 
 // Makes a call of a console.
 pub fn perform<M: Method>(console: &mut Console<M>, call: Call) -> Result<Answer, Refusal>
-    ensures answer { coded result ≡ answer_to M.Arith.Kind.beta M.Arith.Kind.prec
+    ensures answer { coded result ≡ answer_to M.Arith.RADIX M.Arith.PRECISION
         (M.Method.answer console.old.method) (view console.old.lanes) call }
-    ensures lanes { view console.new.lanes ≡ lanes_after M.Arith.Kind.beta M.Arith.Kind.prec
+    ensures lanes { view console.new.lanes ≡ lanes_after M.Arith.RADIX M.Arith.PRECISION
         (M.Method.answer console.old.method) (view console.old.lanes) call }
     ensures method { console.new.method ≡ console.old.method }
-    ensures track { KeepsTrack M.Arith.Kind.beta M.Arith.Kind.prec
+    ensures track { KeepsTrack M.Arith.RADIX M.Arith.PRECISION
         (M.Method.num console.old.method) (M.Method.den console.old.method)
         (event call (coded result)) (view console.old.lanes) (view console.new.lanes) }
-    ensures follows { FollowsTrack M.Arith.Kind.beta M.Arith.Kind.prec
+    ensures follows { FollowsTrack M.Arith.RADIX M.Arith.PRECISION
         (M.Method.num console.old.method) (M.Method.den console.old.method)
         (M.Method.answer console.old.method) (view console.old.lanes) call (coded result) }
 {
@@ -95,16 +95,16 @@ pub fn perform<M: Method>(console: &mut Console<M>, call: Call) -> Result<Answer
 // Makes the calls of the entries in order, and writes each answer beside its call.
 fn make_all<M: Method>(console: &mut Console<M>, entries: &mut [Entry])
     ensures calls { calls_of entries.new ≡ calls_of entries.old }
-    ensures answers { answers_of entries.new ≡ answers_to M.Arith.Kind.beta M.Arith.Kind.prec
+    ensures answers { answers_of entries.new ≡ answers_to M.Arith.RADIX M.Arith.PRECISION
         (M.Method.answer console.old.method) (view console.old.lanes)
         (calls_of entries.old) }
-    ensures lanes { view console.new.lanes ≡ lanes_after_all M.Arith.Kind.beta M.Arith.Kind.prec
+    ensures lanes { view console.new.lanes ≡ lanes_after_all M.Arith.RADIX M.Arith.PRECISION
         (M.Method.answer console.old.method) (view console.old.lanes)
         (calls_of entries.old) }
     ensures method { console.new.method ≡ console.old.method }
     ensures tracked { view console.old.lanes
-        ≡ replicate 10 (fresh_lane M.Arith.Kind.beta M.Arith.Kind.prec)
-        → RunTracked M.Arith.Kind.beta M.Arith.Kind.prec (M.Method.num console.old.method)
+        ≡ replicate 10 (fresh_lane M.Arith.RADIX M.Arith.PRECISION)
+        → RunTracked M.Arith.RADIX M.Arith.PRECISION (M.Method.num console.old.method)
         (M.Method.den console.old.method) (M.Method.answer console.old.method)
         entries.new (view console.new.lanes) }
 {
@@ -128,14 +128,14 @@ pub fn run<M: Method>(method: M, entries: &mut [Entry]) -> Console<M>
     ensures place { UlpIsLastPlace }
     ensures kahan { KahanIsAccurate }
     ensures symmetric { SymmetricIsAccurate }
-    ensures tracked { RunTracked M.Arith.Kind.beta M.Arith.Kind.prec (M.Method.num method)
+    ensures tracked { RunTracked M.Arith.RADIX M.Arith.PRECISION (M.Method.num method)
         (M.Method.den method) (M.Method.answer method) entries.new (view result.lanes) }
     ensures calls { calls_of entries.new ≡ calls_of entries.old }
-    ensures answers { answers_of entries.new ≡ answers_to M.Arith.Kind.beta M.Arith.Kind.prec
-        (M.Method.answer method) (replicate 10 (fresh_lane M.Arith.Kind.beta M.Arith.Kind.prec))
+    ensures answers { answers_of entries.new ≡ answers_to M.Arith.RADIX M.Arith.PRECISION
+        (M.Method.answer method) (replicate 10 (fresh_lane M.Arith.RADIX M.Arith.PRECISION))
         (calls_of entries.old) }
-    ensures lanes { view result.lanes ≡ lanes_after_all M.Arith.Kind.beta M.Arith.Kind.prec
-        (M.Method.answer method) (replicate 10 (fresh_lane M.Arith.Kind.beta M.Arith.Kind.prec))
+    ensures lanes { view result.lanes ≡ lanes_after_all M.Arith.RADIX M.Arith.PRECISION
+        (M.Method.answer method) (replicate 10 (fresh_lane M.Arith.RADIX M.Arith.PRECISION))
         (calls_of entries.old) }
     ensures method { result.method ≡ method }
 {

@@ -36,10 +36,10 @@ fn push_exponent(text: &mut Spelling, mark: u8, q: i32)
 // The text of `f` under the mark of the kind K. It does not ask that `f` is a figure of that kind, so that a report
 // can show any pair of numbers.
 pub fn spell<K: Kind>(f: Figure) -> Spelling
-    ensures { text_of result ≡ spelled K.Kind.letter f.s f.q }
+    ensures { text_of result ≡ spelled K.MARK f.s f.q }
 {
     let mut text = significand(f.s);
-    push_exponent(&mut text, K::read_mark(), f.q);
+    push_exponent(&mut text, K::MARK, f.q);
     text
 }
 

@@ -27,7 +27,7 @@ pub struct Symmetric<A> {
 
 // The seven operations, each of which may refuse.
 fn steps<A: BinaryArithmetic>(a: Figure, b: Figure, c: Figure, d: Figure) -> Result<Figure, Refusal>
-    ensures { coded result ≡ symmetric_steps A.Kind.beta A.Kind.prec a b c d }
+    ensures { coded result ≡ symmetric_steps A.RADIX A.PRECISION a b c d }
 {
     let p1 = A::multiply(a, b)?;
     let p2 = A::multiply(c, d)?;
@@ -41,43 +41,43 @@ fn steps<A: BinaryArithmetic>(a: Figure, b: Figure, c: Figure, d: Figure) -> Res
 // What is proved of the definitions: no step of an accepted four refuses, the answer is near, and exchanging the two
 // products does not change it.
 fn answer_is_near<A: BinaryArithmetic>(a: Figure, b: Figure, c: Figure, d: Figure)
-    ensures answer { Accepted A.Kind.beta A.Kind.prec a b c d
-        → symmetric_steps A.Kind.beta A.Kind.prec a b c d
-        ≡ Ok (symmetric A.Kind.beta A.Kind.prec a b c d) }
-    ensures within { Accepted A.Kind.beta A.Kind.prec a b c d
-        → Within A.Kind.beta (limit_num (A.Kind.beta ^ (A.Kind.prec - 1)))
-        (limit_den (A.Kind.beta ^ (A.Kind.prec - 1)))
-        (value (symmetric A.Kind.beta A.Kind.prec a b c d)) (exact_sum A.Kind.beta a b c d) }
-    ensures exchanged { symmetric A.Kind.beta A.Kind.prec a b c d
-        ≡ symmetric A.Kind.beta A.Kind.prec c d a b }
+    ensures answer { Accepted A.RADIX A.PRECISION a b c d
+        → symmetric_steps A.RADIX A.PRECISION a b c d
+        ≡ Ok (symmetric A.RADIX A.PRECISION a b c d) }
+    ensures within { Accepted A.RADIX A.PRECISION a b c d
+        → Within A.RADIX (limit_num (A.RADIX ^ (A.PRECISION - 1)))
+        (limit_den (A.RADIX ^ (A.PRECISION - 1)))
+        (value (symmetric A.RADIX A.PRECISION a b c d)) (exact_sum A.RADIX a b c d) }
+    ensures exchanged { symmetric A.RADIX A.PRECISION a b c d
+        ≡ symmetric A.RADIX A.PRECISION c d a b }
 {}
 
 impl<A: BinaryArithmetic> Method for Symmetric<A> {
     type Arith = A;
 
-    ghost answer = { λ m. symmetric A.Kind.beta A.Kind.prec };
+    ghost answer = { λ m. symmetric A.RADIX A.PRECISION };
 
-    ghost num = { λ m. limit_num (A.Kind.beta ^ (A.Kind.prec - 1)) };
+    ghost num = { λ m. limit_num (A.RADIX ^ (A.PRECISION - 1)) };
 
-    ghost den = { λ m. limit_den (A.Kind.beta ^ (A.Kind.prec - 1)) };
+    ghost den = { λ m. limit_den (A.RADIX ^ (A.PRECISION - 1)) };
 
-    ghost positive = { λ m. limit_some _ _ A.Kind.kind };
+    ghost positive = { λ m. limit_some _ _ A.kind };
 
     ghost limit = { λ m. symmetric_at_limit _ };
 
-    ghost figure = { λ m a b c d. symmetric_figure _ _ A.Kind.kind a b c d };
+    ghost figure = { λ m a b c d. symmetric_figure _ _ A.kind a b c d };
 
-    ghost range = { λ m a b c d. symmetric_range _ _ A.Kind.kind a b c d };
+    ghost range = { λ m a b c d. symmetric_range _ _ A.kind a b c d };
 
-    ghost near = { λ m a b c d. symmetric_limit _ _ A.Kind.kind a b c d };
+    ghost near = { λ m a b c d. symmetric_limit _ _ A.kind a b c d };
 
     // The answer is within (4B² + 7B + 3)/(4B³) of ab + cd, and it is the answer to c, d, a, b.
     fn apply(&self, a: Figure, b: Figure, c: Figure, d: Figure) -> Result<Figure, Refusal>
-        ensures answer { coded result ≡ unless (faults A.Kind.beta A.Kind.prec a b c d)
-            (symmetric A.Kind.beta A.Kind.prec a b c d) }
-        ensures within { IfOk result (λ f. Within A.Kind.beta (limit_num (A.Kind.beta ^ (A.Kind.prec - 1)))
-            (limit_den (A.Kind.beta ^ (A.Kind.prec - 1))) (value f) (exact_sum A.Kind.beta a b c d)) }
-        ensures exchanged { IfOk result (λ f. f ≡ symmetric A.Kind.beta A.Kind.prec c d a b) }
+        ensures answer { coded result ≡ unless (faults A.RADIX A.PRECISION a b c d)
+            (symmetric A.RADIX A.PRECISION a b c d) }
+        ensures within { IfOk result (λ f. Within A.RADIX (limit_num (A.RADIX ^ (A.PRECISION - 1)))
+            (limit_den (A.RADIX ^ (A.PRECISION - 1))) (value f) (exact_sum A.RADIX a b c d)) }
+        ensures exchanged { IfOk result (λ f. f ≡ symmetric A.RADIX A.PRECISION c d a b) }
     {
         answer_is_near::<A>(a, b, c, d);
         match first_fault(Format::of::<A>(), a, b, c, d) {

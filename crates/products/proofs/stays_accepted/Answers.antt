@@ -4,7 +4,7 @@ use Rattle.products.proofs.stays_accepted.Goals as goal
 
 pub returns : goal.returns
 returns g c =
-    let kind = g.met.K.Kind.kind in
+    let kind = g.K.Kind.kind in
     record {
       turned = flipped_opposite _ _ kind c.args.a c.args.b c.args.c c.args.d;
       determinant = determinant_accepted _ _ kind c.args.a c.args.b c.args.c c.args.d;

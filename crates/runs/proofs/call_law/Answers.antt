@@ -6,4 +6,4 @@ pub returns : goal.returns
 returns g c =
     let laws = g.met.M.Method in
     let method = c.args.console.now.method in
-    call_law _ _ g.met.M.Arith.Kind.kind _ _ _ (record { figure = laws.figure method; near = laws.near method }) _ _
+    call_law _ _ g.M.Arith.Kind.kind _ _ _ (record { figure = laws.figure method; near = laws.near method }) _ _

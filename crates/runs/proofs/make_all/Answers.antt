@@ -20,10 +20,10 @@ loop-entry-preserved g c =
       made_more _ _ _ _ _ blank c.perform-entry.result c.loop-entry.entry-index c.loop-entry.entries ls
           (view c.perform-entry.new.console.lanes) made.0 inside
           (subst (λ k. coded c.perform-entry.result
-          ≡ answer_to g.M.Arith.Kind.beta g.M.Arith.Kind.prec (g.M.Method.answer k) ls call) made.1
+          ≡ answer_to g.M.Arith.Kind.RADIX g.M.Arith.Kind.PRECISION (g.M.Method.answer k) ls call) made.1
           c.perform-entry.ensures.answer)
           (subst (λ k. view c.perform-entry.new.console.lanes
-          ≡ lanes_after g.M.Arith.Kind.beta g.M.Arith.Kind.prec (g.M.Method.answer k) ls call) made.1
+          ≡ lanes_after g.M.Arith.Kind.RADIX g.M.Arith.Kind.PRECISION (g.M.Method.answer k) ls call) made.1
           c.perform-entry.ensures.lanes),
       c.perform-entry.ensures.method ∙ made.1,
     )
@@ -41,7 +41,7 @@ returns g c =
       answers = all.0;
       lanes = all.1;
       method = made.1;
-      tracked = run_tracked _ _ g.met.M.Arith.Kind.kind _ _ _
+      tracked = run_tracked _ _ g.M.Arith.Kind.kind _ _ _
           (record { figure = laws.figure method; near = laws.near method }) _ _ _ _
           made.0.calls all.0 all.1;
     }

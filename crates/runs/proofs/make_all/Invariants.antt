@@ -7,7 +7,7 @@ use Rattle.runs.proofs.make_all.Given as goal
 
 abbrev pub invariant-loop-entry : goal.invariant-loop-entry
 invariant-loop-entry g l =
-    MadeBefore g.M.Arith.Kind.beta g.M.Arith.Kind.prec (g.M.Method.answer l.initial.console.method)
+    MadeBefore g.M.Arith.Kind.RADIX g.M.Arith.Kind.PRECISION (g.M.Method.answer l.initial.console.method)
     (view l.initial.console.lanes) (calls_of l.initial.entries) l.entry-index l.entries
     (view l.console.lanes)
     × (l.console.method ≡ l.initial.console.method)

@@ -10,7 +10,7 @@ pub returns : goal.returns
 returns g c =
     made_then c.answers_both.result
     (λ h. transport
-    (λ i. Stands g.M.Arith.Kind.beta g.M.Arith.Kind.prec (g.M.Method.answer c.args.method.now)
+    (λ i. Stands g.M.Arith.Kind.RADIX g.M.Arith.Kind.PRECISION (g.M.Method.answer c.args.method.now)
     (c.given-a.ensures i) (c.given-b.ensures i) (c.given-c.ensures i) (c.given-d.ensures i)
     (c.given.ensures i) (c.given-2.ensures i) (c.given-3.ensures i) (c.given-4.ensures i)) (
       sym c.sum.ensures ∙ ap coded c.in_ok-answers.ensures,

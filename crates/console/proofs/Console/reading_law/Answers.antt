@@ -3,4 +3,4 @@ use Rattle.console.proofs.Laws.{reading_law}
 use Rattle.console.proofs.Console.reading_law.Goals as goal
 
 pub returns : goal.returns
-returns g c = reading_law _ _ g.met.M.Arith.Kind.kind _ _ _ _
+returns g c = reading_law _ _ g.M.Arith.Kind.kind _ _ _ _

@@ -6,5 +6,5 @@ pub returns : goal.returns
 returns g c =
     let laws = g.met.M.Method in
     let method = c.args.self.now.method in
-    turn_law _ _ g.met.M.Arith.Kind.kind _ _ _ _ _
+    turn_law _ _ g.M.Arith.Kind.kind _ _ _ _ _
     (record { figure = laws.figure method; near = laws.near method }) _ _

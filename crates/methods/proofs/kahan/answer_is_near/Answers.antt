@@ -6,8 +6,8 @@ use Rattle.methods.proofs.kahan.answer_is_near.Goals as goal
 
 pub returns : goal.returns
 returns g c = record {
-  answer = kahan_steps_lem _ _ g.met.A.Kind.kind _ _ _ _;
-  within = kahan_within _ _ g.met.A.Kind.kind _ _ _ _;
-  places = kahan_places _ _ g.met.A.Kind.kind _ _ _ _;
+  answer = kahan_steps_lem _ _ g.A.Kind.kind _ _ _ _;
+  within = kahan_within _ _ g.A.Kind.kind _ _ _ _;
+  places = kahan_places _ _ g.A.Kind.kind _ _ _ _;
   last = ulp_is_last_place;
 }
