@@ -68,7 +68,7 @@ pub fn answers(got: Result<Figure, Refusal>, want: Figure) -> Result<(), Fail>
         }
         Err(refusal) => Err(Fail::new(format_args!(
             "refused with {} in place of ({}, {})",
-            refusal.code(),
+            u8::from(refusal),
             want.s,
             want.q
         ))),
@@ -99,7 +99,7 @@ pub fn refuses<T: Drop>(got: Result<T, Refusal>, code: u8) -> Result<(), Fail>
     match got {
         Ok(_) => Err(Fail::new(format_args!("an answer in place of a refusal with {code}"))),
         Err(refusal) => {
-            let found = refusal.code();
+            let found = u8::from(refusal);
             if found == code {
                 Ok(())
             } else {

@@ -30,7 +30,7 @@ pub struct Console<M: Method> {
 }
 
 // What a lane shows: its count, and both parts of its phasor.
-#[derive(Clone, Copy)]
+#[derive(Clone, Copy, Debug, PartialEq, Eq)]
 pub struct Reading {
     pub count: u32,
     pub real: Figure,

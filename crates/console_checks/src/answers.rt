@@ -51,7 +51,7 @@ fn agrees(got: Result<Answer, Refusal>, want: Told) -> bool
         (Ok(Answer::Shown(r)), Told::Shown(n, x, y)) => {
             r.count == n && is(r.real, x) && is(r.imaginary, y)
         }
-        (Err(refusal), Told::Refused(n)) => refusal.code() == n,
+        (Err(refusal), Told::Refused(n)) => u8::from(refusal) == n,
         _ => false,
     }
 }
@@ -65,6 +65,6 @@ pub fn answers(got: Result<Answer, Refusal>, want: Told) -> Result<(), Fail>
     }
     match got {
         Ok(_) => Err(Fail::new("another answer")),
-        Err(refusal) => Err(Fail::new(format_args!("refused with {}", refusal.code()))),
+        Err(refusal) => Err(Fail::new(format_args!("refused with {}", u8::from(refusal)))),
     }
 }

@@ -113,7 +113,7 @@ impl fmt::Display for Refused {
     ghost output = { λ x. Some (refusal_text (number x.refusal)) };
 
     fn fmt<W: fmt::Write>(&self, f: &mut fmt::Formatter<W>) -> fmt::Result {
-        let number = self.refusal.code();
+        let number = u8::from(self.refusal);
         write!(f, "refused with {number}")
     }
 }

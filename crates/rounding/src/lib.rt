@@ -3,48 +3,53 @@
 // what each operation answers (Operations).
 #![tactic(auto)]
 
-ghost use Rattle.std.specs.Prelude.{◌≡◌};
+ghost use Rattle.std.specs.Prelude.{◌≡◌, Some, decimal};
 ghost use Rattle.rounding.specs.Refusals.{number};
 
+use std::error::Error;
+use std::fmt;
+
 // A significand and an exponent: s × β^q, where β is the radix of the figure's kind.
-#[derive(Clone, Copy)]
+#[derive(Clone, Copy, Debug, PartialEq, Eq)]
 pub struct Figure {
     pub s: i32,
     pub q: i32,
 }
 
-// Why a call is stopped.
-#[derive(Clone, Copy)]
+// Why a call is stopped, with the number by which tables and reports show it.
+#[derive(Clone, Copy, Debug, PartialEq, Eq)]
 pub enum Refusal {
     // an operand of an operation is no figure of the kind
-    NoFigure,
+    NoFigure = 11,
     // the rounded result's exponent is outside -2000..2000
-    ResultRange,
+    ResultRange = 12,
     // an operand of a method is no figure of the kind
-    OperandNoFigure,
+    OperandNoFigure = 21,
     // the exponent of a method's operand is outside -200..200
-    OperandRange,
+    OperandRange = 22,
     // the lane of a console's call is not 0 to 9
-    NoLane,
+    NoLane = 31,
     // the lane has been turned 1,000,000 times
-    LaneFull,
+    LaneFull = 32,
     // a turn would bring a part of the phasor outside the exponents -200..200
-    PhasorRange,
+    PhasorRange = 33,
 }
 
-impl Refusal {
-    // The number by which tables and reports show the refusal.
-    pub fn code(self) -> u8
-        ensures { result ≡ number self }
-    {
-        match self {
-            Refusal::NoFigure => 11,
-            Refusal::ResultRange => 12,
-            Refusal::OperandNoFigure => 21,
-            Refusal::OperandRange => 22,
-            Refusal::NoLane => 31,
-            Refusal::LaneFull => 32,
-            Refusal::PhasorRange => 33,
-        }
+impl From<Refusal> for u8 {
+    ghost from_gives = { λ refusal n. n ≡ number refusal };
+
+    fn from(refusal: Refusal) -> u8 {
+        refusal as u8
     }
 }
+
+// The number alone.
+impl fmt::Display for Refusal {
+    ghost output = { λ refusal. Some (decimal (number refusal)) };
+
+    fn fmt<W: fmt::Write>(&self, f: &mut fmt::Formatter<W>) -> fmt::Result {
+        write!(f, "{}", u8::from(*self))
+    }
+}
+
+impl Error for Refusal {}

@@ -19,7 +19,7 @@ use rounding::{Figure, Refusal};
 
 // What a console answers: the figure of a sum or a determinant, both parts of a complex product, the count after a turn
 // or a restart, or what a reading shows.
-#[derive(Clone, Copy)]
+#[derive(Clone, Copy, Debug, PartialEq, Eq)]
 pub enum Answer {
     Value(Figure),
     Parts(Figure, Figure),
