@@ -8,7 +8,7 @@ ghost use Rattle.bounds.specs.Kahan.{kahan, kahan_steps};
 ghost use Rattle.bounds.proofs.Answers.{kahan_limit, kahan_figure, kahan_range, kahan_within};
 ghost use Rattle.std.proofs.Common.{rules};
 
-use crate::first_fault;
+use crate::check_operands;
 use crate::method::Method;
 use figures::arithmetic::Arithmetic;
 use figures::opposite;
@@ -75,9 +75,7 @@ impl<A: Arithmetic> Method for Kahan<A> {
         ensures last { UlpIsLastPlace }
     {
         answer_is_near::<A>(a, b, c, d);
-        match first_fault(Format::of::<A>(), a, b, c, d) {
-            Some(refusal) => Err(refusal),
-            None => steps::<A>(a, b, c, d),
-        }
+        check_operands(Format::of::<A>(), a, b, c, d)?;
+        steps::<A>(a, b, c, d)
     }
 }

@@ -9,7 +9,7 @@ ghost use Rattle.bounds.specs.Fours.{faults, Accepted};
 use figures::opposite;
 use kinds::Kind;
 use kinds::format::Format;
-use methods::first_fault;
+use methods::check_operands;
 use methods::method::Method;
 use rounding::{Figure, Refusal};
 
@@ -50,10 +50,8 @@ pub fn determinant<M: Method>(
         (M.Method.answer method.now a d (opposite b) c) }
 {
     stays_accepted::<M::Arith>(a, b, c, d);
-    match first_fault(Format::of::<M::Arith>(), a, b, c, d) {
-        Some(refusal) => Err(refusal),
-        None => method.apply(a, d, opposite(b), c),
-    }
+    check_operands(Format::of::<M::Arith>(), a, b, c, d)?;
+    method.apply(a, d, opposite(b), c)
 }
 
 // (a + bi)(c + di): the real and the imaginary part. The operands are tested in this call's order, before b is turned.
@@ -68,9 +66,8 @@ pub fn complex_product<M: Method>(
         (M.Method.answer method.now a c (opposite b) d, M.Method.answer method.now a d b c) }
 {
     stays_accepted::<M::Arith>(a, b, c, d);
-    if let Some(refusal) = first_fault(Format::of::<M::Arith>(), a, b, c, d) {
-        return Err(refusal);
-    }
+    let format = Format::of::<M::Arith>();
+    check_operands(format, a, b, c, d)?;
     let real = method.apply(a, c, opposite(b), d)?;
     let imaginary = method.apply(a, d, b, c)?;
     Ok((real, imaginary))

@@ -18,10 +18,10 @@ abbrev pub coded : {X : Type 0} → Result X Refusal → Result X ℕ
 coded (Ok x) = Ok x
 coded (Err e) = Err (number e)
 
--- what is at fault, with its number
-abbrev pub coded_fault : Option Refusal → Option ℕ
-coded_fault (Some e) = Some (number e)
-coded_fault None = None
+-- what a test finds at fault, with its number
+abbrev pub fault_of : Result (Unit {0}) Refusal → Option ℕ
+fault_of (Ok _) = None
+fault_of (Err e) = Some (number e)
 
 -- the first of two faults
 abbrev pub first : Option ℕ → Option ℕ → Option ℕ

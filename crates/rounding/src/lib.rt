@@ -16,6 +16,17 @@ pub struct Figure {
     pub q: i32,
 }
 
+impl Figure {
+    ghost use Rattle.rounding.specs.Operations.{reaches};
+
+    // Whether the exponent lies in -limit..limit.
+    pub fn reaches(self, limit: u32) -> bool
+        ensures { result ≡ reaches limit self }
+    {
+        self.q.unsigned_abs() <= limit
+    }
+}
+
 // Why a call is stopped, with the number by which tables and reports show it.
 #[derive(Clone, Copy, Debug, PartialEq, Eq)]
 pub enum Refusal {

@@ -14,7 +14,7 @@ ghost use Rattle.bounds.proofs.Answers.{symmetric_limit};
 use figures::arithmetic::BinaryArithmetic;
 use figures::opposite;
 use kinds::format::Format;
-use methods::first_fault;
+use methods::check_operands;
 use methods::method::Method;
 use rounding::{Figure, Refusal};
 use std::marker::PhantomData;
@@ -80,9 +80,7 @@ impl<A: BinaryArithmetic> Method for Symmetric<A> {
         ensures exchanged { IfOk result (λ f. f ≡ symmetric A.RADIX A.PRECISION c d a b) }
     {
         answer_is_near::<A>(a, b, c, d);
-        match first_fault(Format::of::<A>(), a, b, c, d) {
-            Some(refusal) => Err(refusal),
-            None => steps::<A>(a, b, c, d),
-        }
+        check_operands(Format::of::<A>(), a, b, c, d)?;
+        steps::<A>(a, b, c, d)
     }
 }
