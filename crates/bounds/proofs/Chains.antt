@@ -6,11 +6,12 @@ use Rattle.std.proofs.lemmas.Bool.Decides.{nat_tests}
 use Rattle.whole.proofs.Powers.{power_pos}
 use Rattle.rounding.specs.declared.Figure.{Figure}
 use Rattle.rounding.specs.Exact.{value, product}
+use Rattle.rounding.specs.Refusals.{after}
 use Rattle.rounding.specs.Operations.{is_figure, multiplied, added, fused_sum}
 use Rattle.figures.specs.Figures.{opposite, flipped}
 use Rattle.kinds.specs.Kinds.{IsKind}
 use Rattle.kinds.proofs.Sizes.{radix_two, few_digits}
-use Rattle.bounds.specs.Fours.{Accepted, after}
+use Rattle.bounds.specs.Fours.{Accepted}
 use Rattle.bounds.specs.Kahan.{rounded_product, product_error, fused_first, kahan, kahan_steps}
 use Rattle.bounds.specs.Symmetric.{products_sum, errors_sum, symmetric, symmetric_steps}
 use Rattle.bounds.proofs.Ranges.{Lies, Spans, lies_small, lies_near, lies_spans, lies_opposite}

@@ -1,5 +1,5 @@
 -- The four operands of a sum of two products: which are accepted, and the exact sum.
-use Rattle.std.specs.Prelude.{◌≡◌, ℕ, ◌+◌, ◌*◌, ◌≤◌, cond, Some, None, Ok, Err, Option, Result}
+use Rattle.std.specs.Prelude.{◌≡◌, ℕ, ◌+◌, ◌*◌, ◌≤◌, cond, Some, None, Option}
 use Rattle.rounding.specs.declared.Figure.{Figure}
 use Rattle.rounding.specs.declared.Refusal.TheVariants.{OperandNoFigure, OperandRange}
 use Rattle.rounding.specs.Exact.{Exact, product, plus}
@@ -22,11 +22,6 @@ Accepted β p a b c d = faults β p a b c d ≡ None
 -- ab + cd
 abbrev pub exact_sum : ℕ → Figure → Figure → Figure → Figure → Exact
 exact_sum β a b c d = plus β (product a b) (product c d)
-
--- one operation after another, unless it was refused
-abbrev pub after : Result Figure ℕ → (Figure → Result Figure ℕ) → Result Figure ℕ
-after (Ok x) next = next x
-after (Err n) next = Err n
 
 -- the largest allowance of a method, (4B² + 7B + 3)/(4B³)
 abbrev pub limit_num : ℕ → ℕ

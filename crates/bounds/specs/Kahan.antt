@@ -3,9 +3,9 @@ use Rattle.std.specs.Prelude.{ℕ, Result}
 use Rattle.rounding.specs.declared.Figure.{Figure}
 use Rattle.rounding.specs.Exact.{value, product, plus}
 use Rattle.rounding.specs.Rounding.{rounded}
+use Rattle.rounding.specs.Refusals.{after}
 use Rattle.rounding.specs.Operations.{multiplied, added, fused_sum}
 use Rattle.figures.specs.Figures.{opposite, flipped}
-use Rattle.bounds.specs.Fours.{after}
 
 abbrev pub rounded_product : ℕ → ℕ → Figure → Figure → Figure
 rounded_product β p c d = rounded β p (product c d)

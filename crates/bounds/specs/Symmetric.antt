@@ -4,9 +4,9 @@ use Rattle.std.specs.Prelude.{ℕ, Result}
 use Rattle.rounding.specs.declared.Figure.{Figure}
 use Rattle.rounding.specs.Exact.{value, plus}
 use Rattle.rounding.specs.Rounding.{rounded}
+use Rattle.rounding.specs.Refusals.{after}
 use Rattle.rounding.specs.Operations.{multiplied, added, fused_sum}
 use Rattle.figures.specs.Figures.{flipped}
-use Rattle.bounds.specs.Fours.{after}
 use Rattle.bounds.specs.Kahan.{rounded_product, product_error}
 
 abbrev pub products_sum : ℕ → ℕ → Figure → Figure → Figure → Figure → Figure

@@ -5,7 +5,7 @@ ghost use Rattle.std.specs.Prelude.{◌≡◌, ◌+◌, [], replicate};
 ghost use Rattle.rounding.specs.Refusals.{unless, coded};
 ghost use Rattle.figures.specs.Figures.{opposite};
 ghost use Rattle.bounds.specs.Fours.{faults};
-ghost use Rattle.lanes.specs.Lanes.{view, at, fresh_lane};
+ghost use Rattle.lanes.specs.Lanes.{at, fresh_lane};
 ghost use Rattle.lanes.specs.Turning.{no_lane, turn_fault, after_turn, after_restart};
 ghost use Rattle.histories.specs.declared.Call.TheVariants.{Sum, Determinant, Product, Turn, Restart, Read};
 ghost use Rattle.histories.specs.Tracking.{TrackHistory, event, KeepsTrack};
@@ -15,10 +15,11 @@ ghost use Rattle.console.specs.Laws.{FourLaw, TurnLaw, RestartLaw, ReadingLaw};
 
 use kinds::format::Format;
 use lanes::{Lane, Lanes, fresh_lane};
+use methods::check_operand;
 use methods::method::Method;
 use products::{complex_product, determinant, sum};
 use rounding::{Figure, Refusal};
-use turning::{accepted, turned};
+use turning::turned;
 
 mod turning;
 
@@ -48,9 +49,9 @@ impl<M: Method> Console<M> {
     // A console with ten fresh lanes. They track the empty history.
     pub fn new(method: M) -> Self
         ensures method { result.method ≡ method }
-        ensures lanes { view result.lanes ≡ replicate 10 (fresh_lane M.Arith.RADIX M.Arith.PRECISION) }
+        ensures lanes { result.lanes ≡ replicate 10 (fresh_lane M.Arith.RADIX M.Arith.PRECISION) }
         ensures track { TrackHistory M.Arith.RADIX M.Arith.PRECISION (M.Method.num method)
-            (M.Method.den method) [] (view result.lanes) }
+            (M.Method.den method) [] result.lanes }
     {
         Self::new_law(&method);
         Console {
@@ -63,7 +64,7 @@ impl<M: Method> Console<M> {
     fn four_law(&self, a: Figure, b: Figure, c: Figure, d: Figure)
         ensures { FourLaw M.Arith.RADIX M.Arith.PRECISION
             (M.Method.num self.now.method) (M.Method.den self.now.method)
-            (M.Method.answer self.now.method) (view self.now.lanes) a b c d }
+            (M.Method.answer self.now.method) self.now.lanes a b c d }
     {}
 
     // ab + cd. No lane changes.
@@ -73,7 +74,7 @@ impl<M: Method> Console<M> {
         ensures track { KeepsTrack M.Arith.RADIX M.Arith.PRECISION
             (M.Method.num self.now.method) (M.Method.den self.now.method)
             (event (Sum a b c d) (coded result))
-            (view self.now.lanes) (view self.now.lanes) }
+            self.now.lanes self.now.lanes }
     {
         self.four_law(a, b, c, d);
         sum(&self.method, a, b, c, d)
@@ -86,7 +87,7 @@ impl<M: Method> Console<M> {
         ensures track { KeepsTrack M.Arith.RADIX M.Arith.PRECISION
             (M.Method.num self.now.method) (M.Method.den self.now.method)
             (event (Determinant a b c d) (coded result))
-            (view self.now.lanes) (view self.now.lanes) }
+            self.now.lanes self.now.lanes }
     {
         self.four_law(a, b, c, d);
         determinant(&self.method, a, b, c, d)
@@ -107,7 +108,7 @@ impl<M: Method> Console<M> {
         ensures track { KeepsTrack M.Arith.RADIX M.Arith.PRECISION
             (M.Method.num self.now.method) (M.Method.den self.now.method)
             (event (Product a b c d) (coded result))
-            (view self.now.lanes) (view self.now.lanes) }
+            self.now.lanes self.now.lanes }
     {
         self.four_law(a, b, c, d);
         complex_product(&self.method, a, b, c, d)
@@ -115,23 +116,20 @@ impl<M: Method> Console<M> {
 
     // The lane of this number.
     fn lane(&self, number: u8) -> Result<Lane, Refusal>
-        ensures { coded result ≡ unless (no_lane number) (at (view self.now.lanes) number) }
+        ensures { coded result ≡ unless (no_lane number) (at self.now.lanes number) }
     {
-        match self.lanes.get(number) {
-            Some(lane) => Ok(lane),
-            None => Err(Refusal::NoLane),
-        }
+        self.lanes.get(number).ok_or(Refusal::NoLane)
     }
 
     // The lane of this number, turned by c + di.
     fn turned_lane(&self, lane: u8, c: Figure, d: Figure) -> Result<Lane, Refusal>
         ensures { coded result ≡ turn_steps M.Arith.RADIX M.Arith.PRECISION
-            (M.Method.answer self.now.method) (view self.now.lanes) lane c d }
+            (M.Method.answer self.now.method) self.now.lanes lane c d }
     {
         let old = self.lane(lane)?;
         let format = Format::of::<M::Arith>();
-        let c = accepted(format, c)?;
-        let d = accepted(format, d)?;
+        check_operand(format, c)?;
+        check_operand(format, d)?;
         turned(&self.method, old, c, d)
     }
 
@@ -139,22 +137,22 @@ impl<M: Method> Console<M> {
     fn turn_law(&self, lane: u8, c: Figure, d: Figure)
         ensures { TurnLaw M.Arith.RADIX M.Arith.PRECISION
             (M.Method.num self.now.method) (M.Method.den self.now.method)
-            (M.Method.answer self.now.method) (view self.now.lanes) lane c d }
+            (M.Method.answer self.now.method) self.now.lanes lane c d }
     {}
 
     // Turns a lane by c + di: its phasor becomes its complex product with c + di, and its count, which is
     // the answer, rises by one.
     pub fn turn(&mut self, lane: u8, c: Figure, d: Figure) -> Result<u32, Refusal>
         ensures answer { coded result ≡ unless (turn_fault M.Arith.RADIX M.Arith.PRECISION
-            (M.Method.answer self.old.method) (view self.old.lanes) lane c d)
-            ((at (view self.old.lanes) lane).count + 1) }
-        ensures lanes { view self.new.lanes ≡ after_turn M.Arith.RADIX M.Arith.PRECISION
-            (M.Method.answer self.old.method) (view self.old.lanes) lane c d }
+            (M.Method.answer self.old.method) self.old.lanes lane c d)
+            ((at self.old.lanes lane).count + 1) }
+        ensures lanes { self.new.lanes ≡ after_turn M.Arith.RADIX M.Arith.PRECISION
+            (M.Method.answer self.old.method) self.old.lanes lane c d }
         ensures method { self.new.method ≡ self.old.method }
         ensures track { KeepsTrack M.Arith.RADIX M.Arith.PRECISION
             (M.Method.num self.old.method) (M.Method.den self.old.method)
             (event (Turn lane c d) (coded result))
-            (view self.old.lanes) (view self.new.lanes) }
+            self.old.lanes self.new.lanes }
     {
         self.turn_law(lane, c, d);
         let new = self.turned_lane(lane, c, d)?;
@@ -166,19 +164,19 @@ impl<M: Method> Console<M> {
     fn restart_law(&self, lane: u8)
         ensures { RestartLaw M.Arith.RADIX M.Arith.PRECISION
             (M.Method.num self.now.method) (M.Method.den self.now.method)
-            (view self.now.lanes) lane }
+            self.now.lanes lane }
     {}
 
     // Makes a lane fresh again, and answers its count.
     pub fn restart(&mut self, lane: u8) -> Result<u32, Refusal>
         ensures answer { coded result ≡ unless (no_lane lane) 0 }
-        ensures lanes { view self.new.lanes ≡ after_restart M.Arith.RADIX M.Arith.PRECISION
-            (view self.old.lanes) lane }
+        ensures lanes { self.new.lanes ≡ after_restart M.Arith.RADIX M.Arith.PRECISION
+            self.old.lanes lane }
         ensures method { self.new.method ≡ self.old.method }
         ensures track { KeepsTrack M.Arith.RADIX M.Arith.PRECISION
             (M.Method.num self.old.method) (M.Method.den self.old.method)
             (event (Restart lane) (coded result))
-            (view self.old.lanes) (view self.new.lanes) }
+            self.old.lanes self.new.lanes }
     {
         self.restart_law(lane);
         self.lane(lane)?;
@@ -191,20 +189,20 @@ impl<M: Method> Console<M> {
     fn reading_law(&self, lane: u8)
         ensures { ReadingLaw M.Arith.RADIX M.Arith.PRECISION
             (M.Method.num self.now.method) (M.Method.den self.now.method)
-            (view self.now.lanes) lane }
+            self.now.lanes lane }
     {}
 
     // What a lane shows. No lane changes.
     pub fn read(&self, lane: u8) -> Result<Reading, Refusal>
         ensures answer { coded result ≡ unless (no_lane lane)
-            (reading_of (at (view self.now.lanes) lane)) }
+            (reading_of (at self.now.lanes lane)) }
         ensures track { KeepsTrack M.Arith.RADIX M.Arith.PRECISION
             (M.Method.num self.now.method) (M.Method.den self.now.method)
             (event (Read lane) (coded result))
-            (view self.now.lanes) (view self.now.lanes) }
+            self.now.lanes self.now.lanes }
         ensures report { ReportsTrack M.Arith.RADIX M.Arith.PRECISION
             (M.Method.num self.now.method) (M.Method.den self.now.method)
-            (view self.now.lanes) lane (coded result) }
+            self.now.lanes lane (coded result) }
     {
         self.reading_law(lane);
         let read = self.lane(lane)?;

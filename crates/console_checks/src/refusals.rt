@@ -1,6 +1,6 @@
 // What a refused call leaves: a console that was asked and one that was not, otherwise used alike, still show the same.
 ghost use Rattle.std.specs.Prelude.{◌≡◌, ℕ, ◌<◌, OnOk};
-ghost use Rattle.lanes.specs.Lanes.{view, at};
+ghost use Rattle.lanes.specs.Lanes.{at};
 ghost use Rattle.console.specs.Readings.{reading_of};
 
 use crate::rows::Asked::*;
@@ -40,8 +40,8 @@ fn same_reading(one: Reading, other: Reading) -> Result<(), Fail>
 
 // Passes only where the lane of this number shows the same on both consoles.
 fn same_lane<M: Method>(one: &Console<M>, other: &Console<M>, lane: u8) -> Result<(), Fail>
-    ensures { OnOk result (reading_of (at (view one.now.lanes) lane)
-        ≡ reading_of (at (view other.now.lanes) lane)) }
+    ensures { OnOk result (reading_of (at one.now.lanes lane)
+        ≡ reading_of (at other.now.lanes lane)) }
 {
     match (one.read(lane), other.read(lane)) {
         (Ok(a), Ok(b)) => same_reading(a, b),
@@ -51,8 +51,8 @@ fn same_lane<M: Method>(one: &Console<M>, other: &Console<M>, lane: u8) -> Resul
 
 // Passes only where every lane of the two consoles shows the same.
 fn same_lanes<M: Method>(one: &Console<M>, other: &Console<M>) -> Result<(), Fail>
-    ensures { OnOk result (((i : ℕ) → i < 10 → reading_of (at (view one.now.lanes) i)
-        ≡ reading_of (at (view other.now.lanes) i))) }
+    ensures { OnOk result (((i : ℕ) → i < 10 → reading_of (at one.now.lanes i)
+        ≡ reading_of (at other.now.lanes i))) }
 {
     for lane in 0..10 {
         same_lane(one, other, lane)?;

@@ -1,6 +1,5 @@
 // The console against the runs of the tables.
 ghost use Rattle.std.specs.Prelude.{◌≡◌, OnOk};
-ghost use Rattle.lanes.specs.Lanes.{view};
 ghost use Rattle.runs.specs.Answers.{answer_to};
 ghost use Rattle.console_checks.specs.Rows.{call_of, answer_of};
 
@@ -20,7 +19,7 @@ use symmetric_method::Symmetric;
 // Makes the call of a row, and passes only where it has the row's answer.
 pub fn row_stands<M: Method>(console: &mut Console<M>, asked: Asked, told: Told) -> Result<(), Fail>
     ensures { OnOk result (answer_to M.Arith.RADIX M.Arith.PRECISION
-        (M.Method.answer console.old.method) (view console.old.lanes) (call_of asked)
+        (M.Method.answer console.old.method) console.old.lanes (call_of asked)
         ≡ answer_of told) }
 {
     answers(perform(console, call_of(asked)), told)

@@ -3,11 +3,6 @@ use Rattle.std.specs.Prelude.{ℕ, cond, List, Some, None, Option, nat_lt, slice
 use Rattle.rounding.specs.Rounding.{zero_figure}
 use Rattle.phasors.specs.Phasors.{unit}
 use Rattle.lanes.specs.declared.Lane.{Lane}
-use Rattle.lanes.specs.declared.Lanes.{Lanes}
-
--- the ten records; how they lie in memory is known to the functions of the table alone
-unfoldable pub view : Lanes → List Lane
-view table = table.lanes
 
 -- the record at i, of a list that has one there
 abbrev pub at : List Lane → ℕ → Lane

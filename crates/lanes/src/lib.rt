@@ -1,14 +1,15 @@
 // Ten lanes, each with a turning phasor and the number of its turns.
 #![tactic(auto)]
 
-ghost use Rattle.std.specs.Prelude.{◌≡◌, replicate};
-ghost use Rattle.lanes.specs.declared.Lanes.{Lanes};
-ghost use Rattle.lanes.specs.Lanes.{view, found, put, fresh_lane};
+ghost use Rattle.std.specs.Prelude.{◌≡◌, List, replicate};
+ghost use Rattle.lanes.specs.declared.Lane.{Lane};
+ghost use Rattle.lanes.specs.Lanes.{found, put, fresh_lane};
 
 use figures::one;
 use kinds::Kind;
 use phasors::Phasor;
 use rounding::Figure;
+use std::marker::Model;
 
 // A phasor, and how often it was turned since it was fresh.
 #[derive(Clone, Copy)]
@@ -17,44 +18,38 @@ pub struct Lane {
     pub count: u32,
 }
 
-// The ten lanes, numbered 0 to 9. Only the functions here know how they lie in memory; everything above sees them as a
-// list of ten records, the `view` of the contracts.
+// The ten lanes, numbered 0 to 9. Only the functions here know how they lie in memory; contracts see a list of ten
+// records.
 #[derive(Drop)]
 pub struct Lanes {
     lanes: [Lane; 10],
 }
 
-// What is known of the view where the layout is known.
-fn viewed()
-    ensures { (table : Lanes) → view table ≡ table.lanes }
-{}
+impl Model for Lanes {
+    ghost Value = { List Lane };
+
+    ghost view = { λ table. table.lanes };
+}
 
 impl Lanes {
     // Ten lanes that are all the same.
     pub fn all(lane: Lane) -> Lanes
-        ensures { view result ≡ replicate 10 lane }
+        ensures { result ≡ replicate 10 lane }
     {
-        viewed();
         Lanes { lanes: [lane; 10] }
     }
 
     // The lane of this number, if there is one.
     pub fn get(&self, number: u8) -> Option<Lane>
-        ensures { result ≡ found (view self.now) number }
+        ensures { result ≡ found self.now number }
     {
-        viewed();
-        if number < 10 {
-            Some(self.lanes[number as usize])
-        } else {
-            None
-        }
+        self.lanes.get(number as usize).copied()
     }
 
     // Puts a lane in the place of the one of this number; where there is none, nothing changes.
     pub fn set(&mut self, number: u8, lane: Lane)
-        ensures { view self.new ≡ put (view self.old) number lane }
+        ensures { self.new ≡ put self.old number lane }
     {
-        viewed();
         if number > 9 {
             return;
         }

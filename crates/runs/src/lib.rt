@@ -6,7 +6,7 @@ ghost use Rattle.rounding.specs.Errors.{UlpIsLastPlace};
 ghost use Rattle.rounding.specs.Nearest.{RoundsToNearest};
 ghost use Rattle.rounding.specs.Refusals.{coded};
 ghost use Rattle.bounds.specs.Accuracy.{KahanIsAccurate, SymmetricIsAccurate};
-ghost use Rattle.lanes.specs.Lanes.{view, fresh_lane};
+ghost use Rattle.lanes.specs.Lanes.{fresh_lane};
 ghost use Rattle.histories.specs.Tracking.{TrackHistory, event, KeepsTrack};
 ghost use Rattle.runs.specs.Answers.{answer_to, lanes_after};
 ghost use Rattle.runs.specs.Following.{FollowsTrack, CallLaw};
@@ -49,9 +49,9 @@ impl Entry {
 // The answer to a call.
 fn answer_to<M: Method>(console: &mut Console<M>, call: Call) -> Result<Answer, Refusal>
     ensures answer { coded result ≡ answer_to M.Arith.RADIX M.Arith.PRECISION
-        (M.Method.answer console.old.method) (view console.old.lanes) call }
-    ensures lanes { view console.new.lanes ≡ lanes_after M.Arith.RADIX M.Arith.PRECISION
-        (M.Method.answer console.old.method) (view console.old.lanes) call }
+        (M.Method.answer console.old.method) console.old.lanes call }
+    ensures lanes { console.new.lanes ≡ lanes_after M.Arith.RADIX M.Arith.PRECISION
+        (M.Method.answer console.old.method) console.old.lanes call }
     ensures method { console.new.method ≡ console.old.method }
 {
     match call {
@@ -71,22 +71,22 @@ fn answer_to<M: Method>(console: &mut Console<M>, call: Call) -> Result<Answer, 
 fn call_law<M: Method>(console: &Console<M>, call: Call)
     ensures { CallLaw M.Arith.RADIX M.Arith.PRECISION (M.Method.num console.now.method)
         (M.Method.den console.now.method) (M.Method.answer console.now.method)
-        (view console.now.lanes) call }
+        console.now.lanes call }
 {}
 
 // Makes a call of a console.
 pub fn perform<M: Method>(console: &mut Console<M>, call: Call) -> Result<Answer, Refusal>
     ensures answer { coded result ≡ answer_to M.Arith.RADIX M.Arith.PRECISION
-        (M.Method.answer console.old.method) (view console.old.lanes) call }
-    ensures lanes { view console.new.lanes ≡ lanes_after M.Arith.RADIX M.Arith.PRECISION
-        (M.Method.answer console.old.method) (view console.old.lanes) call }
+        (M.Method.answer console.old.method) console.old.lanes call }
+    ensures lanes { console.new.lanes ≡ lanes_after M.Arith.RADIX M.Arith.PRECISION
+        (M.Method.answer console.old.method) console.old.lanes call }
     ensures method { console.new.method ≡ console.old.method }
     ensures track { KeepsTrack M.Arith.RADIX M.Arith.PRECISION
         (M.Method.num console.old.method) (M.Method.den console.old.method)
-        (event call (coded result)) (view console.old.lanes) (view console.new.lanes) }
+        (event call (coded result)) console.old.lanes console.new.lanes }
     ensures follows { FollowsTrack M.Arith.RADIX M.Arith.PRECISION
         (M.Method.num console.old.method) (M.Method.den console.old.method)
-        (M.Method.answer console.old.method) (view console.old.lanes) call (coded result) }
+        (M.Method.answer console.old.method) console.old.lanes call (coded result) }
 {
     call_law(console, call);
     answer_to(console, call)
@@ -96,17 +96,17 @@ pub fn perform<M: Method>(console: &mut Console<M>, call: Call) -> Result<Answer
 fn make_all<M: Method>(console: &mut Console<M>, entries: &mut [Entry])
     ensures calls { calls_of entries.new ≡ calls_of entries.old }
     ensures answers { answers_of entries.new ≡ answers_to M.Arith.RADIX M.Arith.PRECISION
-        (M.Method.answer console.old.method) (view console.old.lanes)
+        (M.Method.answer console.old.method) console.old.lanes
         (calls_of entries.old) }
-    ensures lanes { view console.new.lanes ≡ lanes_after_all M.Arith.RADIX M.Arith.PRECISION
-        (M.Method.answer console.old.method) (view console.old.lanes)
+    ensures lanes { console.new.lanes ≡ lanes_after_all M.Arith.RADIX M.Arith.PRECISION
+        (M.Method.answer console.old.method) console.old.lanes
         (calls_of entries.old) }
     ensures method { console.new.method ≡ console.old.method }
-    ensures tracked { view console.old.lanes
+    ensures tracked { console.old.lanes
         ≡ replicate 10 (fresh_lane M.Arith.RADIX M.Arith.PRECISION)
         → RunTracked M.Arith.RADIX M.Arith.PRECISION (M.Method.num console.old.method)
         (M.Method.den console.old.method) (M.Method.answer console.old.method)
-        entries.new (view console.new.lanes) }
+        entries.new console.new.lanes }
 {
     for entry in entries.iter_mut() {
         entry.answer = perform(console, entry.call);
@@ -129,12 +129,12 @@ pub fn run<M: Method>(method: M, entries: &mut [Entry]) -> Console<M>
     ensures kahan { KahanIsAccurate }
     ensures symmetric { SymmetricIsAccurate }
     ensures tracked { RunTracked M.Arith.RADIX M.Arith.PRECISION (M.Method.num method)
-        (M.Method.den method) (M.Method.answer method) entries.new (view result.lanes) }
+        (M.Method.den method) (M.Method.answer method) entries.new result.lanes }
     ensures calls { calls_of entries.new ≡ calls_of entries.old }
     ensures answers { answers_of entries.new ≡ answers_to M.Arith.RADIX M.Arith.PRECISION
         (M.Method.answer method) (replicate 10 (fresh_lane M.Arith.RADIX M.Arith.PRECISION))
         (calls_of entries.old) }
-    ensures lanes { view result.lanes ≡ lanes_after_all M.Arith.RADIX M.Arith.PRECISION
+    ensures lanes { result.lanes ≡ lanes_after_all M.Arith.RADIX M.Arith.PRECISION
         (M.Method.answer method) (replicate 10 (fresh_lane M.Arith.RADIX M.Arith.PRECISION))
         (calls_of entries.old) }
     ensures method { result.method ≡ method }

@@ -1,7 +1,6 @@
 -- Each turn makes one call more, and after the last all are made.
 use Rattle.std.proofs.Common.{◌≡◌, ◌<◌, ◌≤◌, length, get_or, refl, ◌∙◌, subst, arith}
 use Rattle.rounding.specs.Refusals.{coded}
-use Rattle.lanes.specs.Lanes.{view}
 use Rattle.runs.specs.Answers.{answer_to, lanes_after}
 use Rattle.runs.proofs.Entries.{blank, made_more, made_all, run_tracked}
 use Rattle.runs.proofs.make_all.Goals as goal
@@ -16,13 +15,13 @@ loop-entry-preserved g c =
     omega (arith, c.loop-entry-test.true) in
     let made = c.loop-entry.invariant in
     let call = (get_or c.loop-entry.entries c.loop-entry.entry-index blank).call in
-    let ls = view c.loop-entry.console.lanes in (
+    let ls = c.loop-entry.console.lanes in (
       made_more _ _ _ _ _ blank c.perform-entry.result c.loop-entry.entry-index c.loop-entry.entries ls
-          (view c.perform-entry.new.console.lanes) made.0 inside
+          c.perform-entry.new.console.lanes made.0 inside
           (subst (λ k. coded c.perform-entry.result
           ≡ answer_to g.M.Arith.Kind.RADIX g.M.Arith.Kind.PRECISION (g.M.Method.answer k) ls call) made.1
           c.perform-entry.ensures.answer)
-          (subst (λ k. view c.perform-entry.new.console.lanes
+          (subst (λ k. c.perform-entry.new.console.lanes
           ≡ lanes_after g.M.Arith.Kind.RADIX g.M.Arith.Kind.PRECISION (g.M.Method.answer k) ls call) made.1
           c.perform-entry.ensures.lanes),
       c.perform-entry.ensures.method ∙ made.1,
