@@ -1,3 +1,4 @@
+pub mod State
 pub mod Readings
 pub mod Steps
 pub mod Laws

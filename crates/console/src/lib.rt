@@ -19,6 +19,7 @@ use methods::check_operand;
 use methods::method::Method;
 use products::{complex_product, determinant, sum};
 use rounding::{Figure, Refusal};
+use std::marker::Model;
 use turning::turned;
 
 mod turning;
@@ -28,6 +29,14 @@ mod turning;
 pub struct Console<M: Method> {
     method: M,
     lanes: Lanes,
+}
+
+impl<M: Method> Model for Console<M> {
+    ghost use Rattle.console.specs.State.{State};
+
+    ghost Value = { State M };
+
+    ghost view = { λ console. record { method = console.method; lanes = console.lanes } };
 }
 
 // What a lane shows: its count, and both parts of its phasor.
