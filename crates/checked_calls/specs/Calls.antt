@@ -29,16 +29,12 @@ method_of Decimal = kahan
 method_of Symmetric = symmetric
 
 -- what a call answers over the radix β and the precision p, by the method m
-abbrev pub answer : ℕ → ℕ → (Figure → Figure → Figure → Figure → Figure) → Call → Result Figure ℕ
-answer β p m (Multiply x y) = multiplied β p x y
-answer β p m (Add x y) = added β p x y
-answer β p m (Fused x y z) = fused_sum β p x y z
-answer β p m (Sum a b c d) = unless (faults β p a b c d) (m a b c d)
-answer β p m (Determinant a b c d) = unless (faults β p a b c d) (m a d (opposite b) c)
-
--- the same, kept shut where only the call matters
 unfoldable pub answered : ℕ → ℕ → (Figure → Figure → Figure → Figure → Figure) → Call → Result Figure ℕ
-answered β p m call = answer β p m call
+answered β p m (Multiply x y) = multiplied β p x y
+answered β p m (Add x y) = added β p x y
+answered β p m (Fused x y z) = fused_sum β p x y z
+answered β p m (Sum a b c d) = unless (faults β p a b c d) (m a b c d)
+answered β p m (Determinant a b c d) = unless (faults β p a b c d) (m a d (opposite b) c)
 
 abbrev pub answer_of : Arrangement → Call → Result Figure ℕ
 answer_of by call = answered (radix_of by) (precision_of by) (method_of by (radix_of by) (precision_of by)) call

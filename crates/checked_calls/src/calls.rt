@@ -1,7 +1,7 @@
 // Calls as values, and how they are made.
 ghost use Rattle.std.specs.Prelude.{◌≡◌};
 ghost use Rattle.rounding.specs.Refusals.{coded};
-ghost use Rattle.checked_calls.specs.Calls.{radix_of, precision_of, method_of, answer, answered, answer_of, product_of};
+ghost use Rattle.checked_calls.specs.Calls.{radix_of, precision_of, method_of, answered, answer_of, product_of};
 
 use figures::arithmetic::Arithmetic;
 use integers::Integers;
@@ -51,8 +51,9 @@ pub struct Answered {
 }
 
 // Makes a call by any method and its arithmetic.
+#[tactic(auto, unfolding(crate::specs::Calls::answered))]
 fn perform<M: Method>(method: &M, call: Call) -> Result<Figure, Refusal>
-    ensures { coded result ≡ answer M.Arith.RADIX M.Arith.PRECISION
+    ensures { coded result ≡ answered M.Arith.RADIX M.Arith.PRECISION
         (M.Method.answer method.now) call }
 {
     match call {
@@ -64,26 +65,19 @@ fn perform<M: Method>(method: &M, call: Call) -> Result<Figure, Refusal>
     }
 }
 
-// The same, with its answer kept shut: what the arrangements below choose is the method, not the call.
-fn performed<M: Method>(method: &M, call: Call) -> Result<Figure, Refusal>
-    ensures { coded result ≡ answered M.Arith.RADIX M.Arith.PRECISION
-        (M.Method.answer method.now) call }
-{
-    perform(method, call)
-}
-
 // Makes a call by an arrangement.
 pub fn answer_of(by: Arrangement, call: Call) -> Result<Figure, Refusal>
     ensures { coded result ≡ answer_of by call }
 {
     match by {
-        Arrangement::Binary => performed(&BINARY, call),
-        Arrangement::Decimal => performed(&DECIMAL, call),
-        Arrangement::Symmetric => performed(&SYMMETRIC, call),
+        Arrangement::Binary => perform(&BINARY, call),
+        Arrangement::Decimal => perform(&DECIMAL, call),
+        Arrangement::Symmetric => perform(&SYMMETRIC, call),
     }
 }
 
-// A complex product by any method, its answer kept shut.
+// A complex product by any method.
+#[tactic(auto, unfolding(crate::specs::Calls::product_of))]
 fn product_by<M: Method>(
     method: &M,
     a: Figure,
