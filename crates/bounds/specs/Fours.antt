@@ -1,5 +1,5 @@
 -- The four operands of a sum of two products: which are accepted, and the exact sum.
-use Rattle.std.specs.Prelude.{◌≡◌, ℕ, ◌+◌, ◌*◌, ◌≤◌, cond, Some, None, Option}
+use Rattle.std.specs.Prelude.{◌≡◌, ℕ, ◌+◌, ◌*◌, ◌≤◌, if◌then◌else◌, Some, None, Option}
 use Rattle.rounding.specs.declared.Figure.{Figure}
 use Rattle.rounding.specs.declared.Refusal.TheVariants.{OperandNoFigure, OperandRange}
 use Rattle.rounding.specs.Exact.{Exact, product, plus}
@@ -8,8 +8,7 @@ use Rattle.rounding.specs.Operations.{is_figure, reaches}
 
 -- what is wrong with an operand of a method: no figure of the kind, before an exponent outside -200..200
 abbrev pub fault : ℕ → ℕ → Figure → Option ℕ
-fault β p f = cond (is_figure β p f) (cond (reaches 200 f) None (Some (number OperandRange)))
-    (Some (number OperandNoFigure))
+fault β p f = if is_figure β p f then (if reaches 200 f then None else Some (number OperandRange)) else Some (number OperandNoFigure)
 
 -- the first fault from the left
 abbrev pub faults : ℕ → ℕ → Figure → Figure → Figure → Figure → Option ℕ

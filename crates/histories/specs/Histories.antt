@@ -1,6 +1,6 @@
 -- What the calls made of a console, and whether each was refused, say of a lane. Nothing is taken from what the console
 -- holds.
-use Rattle.std.specs.Prelude.{ℕ, ◌+◌, Bool, cond, List, [], ◌∷◌, ◌==◌}
+use Rattle.std.specs.Prelude.{ℕ, ◌+◌, Bool, if◌then◌else◌, List, [], ◌∷◌, ◌==◌}
 use Rattle.rounding.specs.declared.Figure.{Figure}
 use Rattle.phasors.specs.Complex.{Complex, unity, factor, times}
 use Rattle.histories.specs.declared.Call.{Call}
@@ -33,11 +33,11 @@ abbrev pub moved : ℕ → ℕ → Call → Course → Course
 moved β i (Sum a b c d) s = s
 moved β i (Determinant a b c d) s = s
 moved β i (Product a b c d) s = s
-moved β i (Turn j c d) s = cond (i == j) (further β c d s) s
-moved β i (Restart j) s = cond (i == j) begun s
+moved β i (Turn j c d) s = if i == j then further β c d s else s
+moved β i (Restart j) s = if i == j then begun else s
 moved β i (Read j) s = s
 
 -- the course of the lane i after a history
 abbrev pub course : ℕ → ℕ → History → Course
 course β i [] = begun
-course β i (e ∷ h) = cond e.refused (course β i h) (moved β i e.call (course β i h))
+course β i (e ∷ h) = if e.refused then course β i h else moved β i e.call (course β i h)

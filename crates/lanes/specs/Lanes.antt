@@ -1,5 +1,5 @@
 -- Ten lanes as a list of records.
-use Rattle.std.specs.Prelude.{ℕ, cond, List, Some, None, Option, nat_lt, slice_index_or, slice_set}
+use Rattle.std.specs.Prelude.{ℕ, if◌then◌else◌, List, Some, None, Option, nat_lt, slice_index_or, slice_set}
 use Rattle.rounding.specs.Rounding.{zero_figure}
 use Rattle.phasors.specs.Phasors.{unit}
 use Rattle.lanes.specs.declared.Lane.{Lane}
@@ -10,11 +10,11 @@ at ls i = slice_index_or ls i (record { phasor = record { real = zero_figure; im
 
 -- the lane numbered i, if there is one
 abbrev pub found : List Lane → ℕ → Option Lane
-found ls i = cond (nat_lt i 10) (Some (at ls i)) None
+found ls i = if nat_lt i 10 then Some (at ls i) else None
 
 -- the lanes with l in the place of the one numbered i, if there is one
 abbrev pub put : List Lane → ℕ → Lane → List Lane
-put ls i l = cond (nat_lt i 10) (slice_set ls i l) ls
+put ls i l = if nat_lt i 10 then slice_set ls i l else ls
 
 -- one and zero, not yet turned
 abbrev pub fresh_lane : ℕ → ℕ → Lane

@@ -1,5 +1,5 @@
 -- What a turn and a restart make of the lanes, and what stops them.
-use Rattle.std.specs.Prelude.{ℕ, ◌+◌, cond, List, Some, None, Option, nat_lt}
+use Rattle.std.specs.Prelude.{ℕ, ◌+◌, if◌then◌else◌, List, Some, None, Option, nat_lt}
 use Rattle.rounding.specs.declared.Figure.{Figure}
 use Rattle.rounding.specs.declared.Refusal.TheVariants.{NoLane, LaneFull, PhasorRange}
 use Rattle.rounding.specs.Operations.{reaches}
@@ -12,15 +12,15 @@ use Rattle.lanes.specs.Lanes.{at, put, fresh_lane}
 
 -- the lane is not 0 to 9
 abbrev pub no_lane : ℕ → Option ℕ
-no_lane i = cond (nat_lt i 10) None (Some (number NoLane))
+no_lane i = if nat_lt i 10 then None else Some (number NoLane)
 
 -- the lane has been turned 1,000,000 times
 abbrev pub full : Lane → Option ℕ
-full l = cond (nat_lt l.count 1000000) None (Some (number LaneFull))
+full l = if nat_lt l.count 1000000 then None else Some (number LaneFull)
 
 -- the exponent of a part is outside -200..200
 abbrev pub far : Figure → Option ℕ
-far f = cond (reaches 200 f) None (Some (number PhasorRange))
+far f = if reaches 200 f then None else Some (number PhasorRange)
 
 abbrev pub strayed : Phasor → Option ℕ
 strayed w = first (far w.real) (far w.imaginary)

@@ -1,5 +1,5 @@
 -- What multiply, add and fused answer: the exact result rounded once, or the first refusal.
-use Rattle.std.specs.Prelude.{ℕ, ◌-◌, ◌^◌, Bool, cond, ◌&&◌, Some, None, Option, Result, ◌==◌, nat_le, nat_lt}
+use Rattle.std.specs.Prelude.{ℕ, ◌-◌, ◌^◌, Bool, if◌then◌else◌, ◌&&◌, Some, None, Option, Result, ◌==◌, nat_le, nat_lt}
 use Rattle.std.specs.Prelude.{unsigned_abs}
 use Rattle.rounding.specs.declared.Figure.{Figure}
 use Rattle.rounding.specs.declared.Refusal.TheVariants.{NoFigure, ResultRange}
@@ -14,14 +14,13 @@ reaches l f = nat_le (unsigned_abs f.q) l
 -- a figure of the kind with radix β and precision p: zero is s = 0 with q = 0 alone, every other has p digits
 abbrev pub is_figure : ℕ → ℕ → Figure → Bool
 is_figure β p f =
-    cond (unsigned_abs f.s == 0) (unsigned_abs f.q == 0)
-    (nat_le (β ^ (p - 1)) (unsigned_abs f.s) && (nat_lt (unsigned_abs f.s) (β ^ p) && reaches 2000 f))
+    if unsigned_abs f.s == 0 then unsigned_abs f.q == 0 else nat_le (β ^ (p - 1)) (unsigned_abs f.s) && (nat_lt (unsigned_abs f.s) (β ^ p) && reaches 2000 f)
 
 abbrev pub no_figure : ℕ → ℕ → Figure → Option ℕ
-no_figure β p f = cond (is_figure β p f) None (Some (number NoFigure))
+no_figure β p f = if is_figure β p f then None else Some (number NoFigure)
 
 abbrev pub outside : Figure → Option ℕ
-outside f = cond (reaches 2000 f) None (Some (number ResultRange))
+outside f = if reaches 2000 f then None else Some (number ResultRange)
 
 -- the rounded value of x, where nothing is at fault with the operands or with the result
 abbrev pub answered : ℕ → ℕ → Option ℕ → Exact → Result Figure ℕ

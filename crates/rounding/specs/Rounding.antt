@@ -1,5 +1,5 @@
 -- The figure of an exact number: to nearest, ties to even, exponent unbounded.
-use Rattle.std.specs.Prelude.{ℕ, ◌+◌, ◌-◌, ◌*◌, ◌/◌, ◌%◌, ◌^◌, Bool, true, false, cond, ℤ, pos, negsuc, ◌+ℤ◌, ◌-ℤ◌}
+use Rattle.std.specs.Prelude.{ℕ, ◌+◌, ◌-◌, ◌*◌, ◌/◌, ◌%◌, ◌^◌, Bool, true, false, if◌then◌else◌, ℤ, pos, negsuc, ◌+ℤ◌, ◌-ℤ◌}
 use Rattle.std.specs.Prelude.{neg_ℤ, ◌==◌, nat_lt, unsigned_abs}
 use Rattle.rounding.specs.declared.Figure.{Figure}
 use Rattle.rounding.specs.Exact.{Exact}
@@ -20,7 +20,7 @@ signed true n = neg_ℤ (pos n)
 -- what a quotient d is raised by where its remainder, doubled, is r against the unit u: nothing below half a unit,
 -- one above it, and in a tie what makes d even
 abbrev pub raise : ℕ → ℕ → ℕ → ℕ
-raise u d r = cond (nat_lt r u) 0 (cond (nat_lt u r) 1 (d % 2))
+raise u d r = if nat_lt r u then 0 else if nat_lt u r then 1 else d % 2
 
 -- n / u to the nearest whole number, ties to even
 abbrev pub quotient : ℕ → ℕ → ℕ
@@ -29,8 +29,7 @@ quotient u n = n / u + raise u (n / u) (2 * (n % u))
 -- ± s × β^q as a figure of p digits, where rounding up may have brought s to β^p
 abbrev pub carried : ℕ → ℕ → Bool → ℕ → ℤ → Figure
 carried β p neg s q =
-    cond (nat_lt s (β ^ p)) (record { s = signed neg s; q = q })
-    (record { s = signed neg (β ^ (p - 1)); q = q +ℤ pos 1 })
+    if nat_lt s (β ^ p) then (record { s = signed neg s; q = q }) else (record { s = signed neg (β ^ (p - 1)); q = q +ℤ pos 1 })
 
 -- |m| with p - 1 digits more: it has p digits at least, so that digits are only ever dropped
 abbrev pub widened : ℕ → ℕ → Exact → ℕ
@@ -43,4 +42,4 @@ dropped β p x j =
 
 -- the figure of p digits that is nearest to x; its exponent may be any whole number
 unfoldable pub rounded : ℕ → ℕ → Exact → Figure
-rounded β p x = cond (unsigned_abs x.m == 0) zero_figure (dropped β p x (digits β (widened β p x) - p))
+rounded β p x = if unsigned_abs x.m == 0 then zero_figure else dropped β p x (digits β (widened β p x) - p)

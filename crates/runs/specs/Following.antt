@@ -1,5 +1,5 @@
 -- What an answer says of the calls before it.
-use Rattle.std.specs.Prelude.{◌≡◌, ℕ, ◌+◌, cond, ◌⊎◌, List, Some, None, Ok, Err, Option, Result, nat_lt}
+use Rattle.std.specs.Prelude.{◌≡◌, ℕ, ◌+◌, if◌then◌else◌, ◌⊎◌, List, Some, None, Ok, Err, Option, Result, nat_lt}
 use Rattle.rounding.specs.declared.Figure.{Figure}
 use Rattle.rounding.specs.declared.Refusal.TheVariants.{LaneFull, PhasorRange}
 use Rattle.rounding.specs.Refusals.{number, first, unless}
@@ -22,7 +22,7 @@ use Rattle.runs.specs.Answers.{mapped, parts, answer_to, lanes_after}
 abbrev pub foreseen : ℕ → ℕ → ℕ → ℕ → Figure → Figure → Option ℕ
 foreseen β p turns i c d =
     first (no_lane i) (first (fault β p c) (first (fault β p d)
-    (cond (nat_lt turns 1000000) None (Some (number LaneFull)))))
+    (if nat_lt turns 1000000 then None else Some (number LaneFull))))
 
 -- a turn is refused by what the calls before it foresee; else it answers the number of the lane's turns with this one,
 -- or it is refused since the new phasor has strayed
