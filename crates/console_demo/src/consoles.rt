@@ -60,6 +60,7 @@ fn answered(by: Arrangement, mut entries: Vec<Entry>) -> Vec<Entry>
 }
 
 // The calls of a script, made of a new console, with their answers.
+#[tactic(auto, using(crate::proofs::Unmade::calls_of_unmade))]
 pub fn made_by(heap: Global, by: Arrangement, script: &[Said]) -> Result<Vec<Entry>, AllocError>
     ensures calls { IfOk result (λ v. calls_of v.items ≡ said_calls script.now) }
     ensures answers { IfOk result (λ v. answers_of v.items ≡ answers_by by (said_calls script.now)) }
