@@ -11,8 +11,8 @@ use rounding::Figure;
 use std::marker::Model;
 use std::{fmt, str};
 
-// The longest text of a figure takes 23 bytes: two signs, two numbers of ten digits and a mark. A mark may be any byte,
-// so the text is kept as bytes.
+// The longest text of a figure takes 23 bytes: two signs, two numbers of ten digits and a mark. A mark may be any
+// byte, so the text is kept as bytes.
 #[derive(Drop)]
 pub struct Spelling {
     bytes: ArrayVec<u8, 23>,
