@@ -1,5 +1,5 @@
 -- What a call answers, by the arrangement that makes it.
-use Rattle.std.specs.Prelude.{ℕ, Result}
+use Rattle.std.specs.Prelude.{ℕ, List, codes, Result}
 use Rattle.rounding.specs.declared.Figure.{Figure}
 use Rattle.rounding.specs.Refusals.{unless}
 use Rattle.rounding.specs.Operations.{multiplied, added, fused_sum}
@@ -11,6 +11,11 @@ use Rattle.checked_calls.specs.declared.calls.Arrangement.{Arrangement}
 use Rattle.checked_calls.specs.declared.calls.Arrangement.TheVariants.{Binary, Decimal, Symmetric}
 use Rattle.checked_calls.specs.declared.calls.Call.{Call}
 use Rattle.checked_calls.specs.declared.calls.Call.TheVariants.{Multiply, Add, Fused, Sum, Determinant}
+
+abbrev pub name_text : Arrangement → List ℕ
+name_text Binary = codes "binary"
+name_text Decimal = codes "decimal"
+name_text Symmetric = codes "symmetric"
 
 abbrev pub radix_of : Arrangement → ℕ
 radix_of Binary = 2

@@ -1,7 +1,8 @@
 // Calls as values, and how they are made.
-ghost use Rattle.std.specs.Prelude.{◌≡◌};
+ghost use Rattle.std.specs.Prelude.{◌≡◌, Some};
 ghost use Rattle.rounding.specs.Refusals.{coded};
-ghost use Rattle.checked_calls.specs.Calls.{radix_of, precision_of, method_of, answered, answer_of, product_of};
+ghost use Rattle.checked_calls.specs.Calls.{radix_of, precision_of, method_of, name_text};
+ghost use Rattle.checked_calls.specs.Calls.{answer, answered, answer_of, product_of};
 
 use figures::arithmetic::Arithmetic;
 use integers::Integers;
@@ -9,6 +10,7 @@ use methods::kahan::Kahan;
 use methods::method::Method;
 use products::{complex_product, determinant, sum};
 use rounding::{Figure, Refusal};
+use std::fmt;
 use std::marker::PhantomData;
 use symmetric_method::Symmetric;
 
@@ -19,6 +21,19 @@ pub enum Arrangement {
     Binary,
     Decimal,
     Symmetric,
+}
+
+// Its name.
+impl fmt::Display for Arrangement {
+    ghost output = { λ by. Some (name_text by) };
+
+    fn fmt<W: fmt::Write>(&self, f: &mut fmt::Formatter<W>) -> fmt::Result {
+        f.write_str(match self {
+            Arrangement::Binary => "binary",
+            Arrangement::Decimal => "decimal",
+            Arrangement::Symmetric => "symmetric",
+        })
+    }
 }
 
 const BINARY: Kahan<Integers<kinds::Binary>> = Kahan {

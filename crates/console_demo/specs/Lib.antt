@@ -1,2 +1,1 @@
-pub mod Heats
 pub mod Scripts

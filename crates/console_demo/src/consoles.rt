@@ -1,6 +1,6 @@
 // Scripts run on new consoles.
-ghost use Rattle.std.specs.Prelude.{◌≡◌, IfOk};
-ghost use Rattle.runs.specs.Entries.{calls_of, answers_of};
+ghost use Rattle.std.specs.Prelude.{◌≡◌, map, IfOk};
+ghost use Rattle.runs.specs.Entries.{unmade, calls_of, answers_of};
 ghost use Rattle.console_demo.specs.Scripts.{said_calls, answers_by};
 
 use crate::scripts::Said;
@@ -42,13 +42,12 @@ fn run_by(by: Arrangement, entries: &mut [Entry])
 
 // The calls of a script, yet to be made.
 fn entries_of(heap: Global, script: &[Said]) -> Result<Vec<Entry>, AllocError>
-    ensures { IfOk result (λ v. calls_of v.items ≡ said_calls script.now) }
+    ensures { IfOk result (λ v. v.items ≡ map (λ said. unmade said.call) script.now) }
 {
-    let mut entries = Vec::new(heap);
-    for said in script {
-        entries.push(Entry::new(said.call))?;
-    }
-    Ok(entries)
+    script
+        .iter()
+        .map(|said| Entry::new(said.call))
+        .collect(heap)
 }
 
 // The entries with the answers of a new console beside their calls.
@@ -61,6 +60,7 @@ fn answered(by: Arrangement, mut entries: Vec<Entry>) -> Vec<Entry>
 }
 
 // The calls of a script, made of a new console, with their answers.
+#[tactic(auto, using(crate::proofs::Unmade::calls_of_unmade))]
 pub fn made_by(heap: Global, by: Arrangement, script: &[Said]) -> Result<Vec<Entry>, AllocError>
     ensures calls { IfOk result (λ v. calls_of v.items ≡ said_calls script.now) }
     ensures answers { IfOk result (λ v. answers_of v.items ≡ answers_by by (said_calls script.now)) }

@@ -1,9 +1,10 @@
 // What several users ask of one console, call by call.
-ghost use Rattle.std.specs.Prelude.{◌≡◌};
+ghost use Rattle.std.specs.Prelude.{Some};
 ghost use Rattle.console_demo.specs.Scripts.{user_text};
 
 use histories::Call;
 use rounding::Figure;
+use std::fmt;
 
 // Who asks: the touch filter, which turns the phasors; the results desk, which computes; the referee, who reads.
 #[derive(Clone, Copy)]
@@ -13,15 +14,15 @@ pub enum User {
     Referee,
 }
 
-impl User {
-    pub fn name(self) -> &'static str
-        ensures { result.now ≡ user_text self }
-    {
-        match self {
+impl fmt::Display for User {
+    ghost output = { λ user. Some (user_text user) };
+
+    fn fmt<W: fmt::Write>(&self, f: &mut fmt::Formatter<W>) -> fmt::Result {
+        f.write_str(match self {
             User::Filter => "filter",
             User::Desk => "desk",
             User::Referee => "referee",
-        }
+        })
     }
 }
 

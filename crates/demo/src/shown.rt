@@ -1,7 +1,7 @@
 // The sums, determinants and complex products that the program shows.
-use crate::sentences::Four;
 use checked_calls::calls::{Arrangement, Call};
 use rounding::Figure;
+use sentences::Four;
 
 // 16777215/4 times 16777219, a tie that the methods take to either side.
 const DIFFERING: Call = Call::Sum(

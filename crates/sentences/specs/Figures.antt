@@ -1,6 +1,8 @@
--- What is said of figures, of refusals and of an arrangement.
-use Rattle.std.specs.Prelude.{ℕ, List, ◌++◌, codes, decimal}
+-- What is said of figures and of outcomes.
+use Rattle.std.specs.Prelude.{ℕ, List, ◌++◌, Some, Ok, Err, codes, decimal, Option, Result}
 use Rattle.rounding.specs.declared.Figure.{Figure}
+use Rattle.rounding.specs.declared.Refusal.{Refusal}
+use Rattle.rounding.specs.Refusals.{number}
 use Rattle.spelling.specs.Spelled.{spelled}
 use Rattle.checked_calls.specs.declared.calls.Arrangement.{Arrangement}
 use Rattle.checked_calls.specs.declared.calls.Arrangement.TheVariants.{Binary, Decimal, Symmetric}
@@ -21,10 +23,15 @@ pair_text by a b = figure_text by a ++ (codes " " ++ figure_text by b)
 abbrev pub four_text : Arrangement → Figure → Figure → Figure → Figure → List ℕ
 four_text by a b c d = pair_text by a b ++ (codes " " ++ pair_text by c d)
 
-abbrev pub name_text : Arrangement → List ℕ
-name_text Binary = codes "binary"
-name_text Decimal = codes "decimal"
-name_text Symmetric = codes "symmetric"
-
 abbrev pub refusal_text : ℕ → List ℕ
 refusal_text n = codes "refused with " ++ decimal n
+
+-- a value's text, or the number of the refusal
+abbrev pub answered_text : {X : Type 0} → (X → List ℕ) → Result X ℕ → List ℕ
+answered_text text (Ok x) = text x
+answered_text text (Err n) = refusal_text n
+
+-- the same of a value that may not tell what it prints
+abbrev pub printed_outcome : {X : Type 0} → (X → Option (List ℕ)) → Result X Refusal → Option (List ℕ)
+printed_outcome output (Ok x) = output x
+printed_outcome output (Err e) = Some (refusal_text (number e))

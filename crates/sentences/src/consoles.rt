@@ -1,13 +1,12 @@
 // Calls that were made of a console.
 ghost use Rattle.std.specs.Prelude.{Some};
 ghost use Rattle.rounding.specs.Refusals.{coded};
-ghost use Rattle.sentences.specs.Consoles.{call_text, value_text, answer_text, entry_text};
+ghost use Rattle.sentences.specs.Consoles.{call_text, value_text, entry_text};
 
-use crate::{Four, Pair, Refused, Shown};
+use crate::{Four, Outcome, Pair, Shown};
 use checked_calls::calls::Arrangement;
 use histories::Call;
-use rounding::Refusal;
-use runs::Answer;
+use runs::{Answer, Entry};
 use std::fmt;
 
 // A call with its operands.
@@ -80,53 +79,22 @@ impl fmt::Display for Value {
     }
 }
 
-// What a call answered: a value, or a refusal.
-#[derive(Clone, Copy)]
-struct Answered {
-    by: Arrangement,
-    answer: Result<Answer, Refusal>,
-}
-
-impl fmt::Display for Answered {
-    ghost output = { λ x. Some (answer_text x.by (coded x.answer)) };
-
-    fn fmt<W: fmt::Write>(&self, f: &mut fmt::Formatter<W>) -> fmt::Result {
-        match self.answer {
-            Ok(answer) => {
-                let value = Value {
-                    by: self.by,
-                    answer,
-                };
-                write!(f, "{value}")
-            }
-            Err(refusal) => {
-                let refused = Refused { refusal };
-                write!(f, "{refused}")
-            }
-        }
-    }
-}
-
 // A call and what it answered.
 #[derive(Clone, Copy)]
 pub struct Sentence {
     pub by: Arrangement,
-    pub call: Call,
-    pub answer: Result<Answer, Refusal>,
+    pub entry: Entry,
 }
 
 impl fmt::Display for Sentence {
-    ghost output = { λ x. Some (entry_text x.by x.call (coded x.answer)) };
+    ghost output = { λ x. Some (entry_text x.by x.entry.call (coded x.entry.answer)) };
 
     fn fmt<W: fmt::Write>(&self, f: &mut fmt::Formatter<W>) -> fmt::Result {
-        let call = Asked {
-            by: self.by,
-            call: self.call,
-        };
-        let answer = Answered {
-            by: self.by,
-            answer: self.answer,
-        };
-        write!(f, "{call}: {answer}")
+        let by = self.by;
+        let Entry { call, answer } = self.entry;
+        let call = Asked { by, call };
+        let answer = answer.map(|answer| Value { by, answer });
+        let outcome = Outcome { answer };
+        write!(f, "{call}: {outcome}")
     }
 }

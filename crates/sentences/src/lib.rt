@@ -1,17 +1,14 @@
-// What a program says of calls: types that print themselves, with the bytes that they print. Here are figures, refusals
-// and arrangements; `operations` has calls made with no console, `consoles` those made of one.
+// What a program says of calls: types that print themselves, with the bytes that they print. Here are figures and
+// outcomes; `operations` has calls made with no console, `consoles` those made of one.
 #![tactic(auto)]
 
 ghost use Rattle.std.specs.Prelude.{◌≡◌, Some};
-ghost use Rattle.rounding.specs.Refusals.{number};
-ghost use Rattle.spelling.specs.Spelled.{text_of};
-ghost use Rattle.sentences.specs.Figures.{figure_text, pair_text, four_text, name_text, refusal_text};
+ghost use Rattle.sentences.specs.Figures.{figure_text, pair_text, four_text, printed_outcome};
 
 use checked_calls::calls::Arrangement;
 use kinds::{Binary, Decimal};
 use rounding::{Figure, Refusal};
-use spelling::spell;
-use spelling::text::Spelling;
+use spelling::{Spelling, spell};
 use std::fmt;
 
 pub mod consoles;
@@ -19,7 +16,7 @@ pub mod operations;
 
 // The text of a figure of the arrangement's kind.
 fn spell_in(by: Arrangement, f: Figure) -> Spelling
-    ensures { text_of result ≡ figure_text by f }
+    ensures { result ≡ figure_text by f }
 {
     match by {
         Arrangement::Binary => spell::<Binary>(f),
@@ -39,8 +36,7 @@ impl fmt::Display for Shown {
     ghost output = { λ x. Some (figure_text x.by x.figure) };
 
     fn fmt<W: fmt::Write>(&self, f: &mut fmt::Formatter<W>) -> fmt::Result {
-        let text = spell_in(self.by, self.figure);
-        write!(f, "{text}")
+        write!(f, "{}", spell_in(self.by, self.figure))
     }
 }
 
@@ -92,28 +88,19 @@ impl fmt::Display for Four {
     }
 }
 
-// A refusal, by its number.
+// What a call answered: a value, or a refusal, by its number.
 #[derive(Clone, Copy)]
-pub struct Refused {
-    pub refusal: Refusal,
+struct Outcome<T> {
+    answer: Result<T, Refusal>,
 }
 
-impl fmt::Display for Refused {
-    ghost output = { λ x. Some (refusal_text (number x.refusal)) };
+impl<T: fmt::Display> fmt::Display for Outcome<T> {
+    ghost output = { λ x. printed_outcome T.output x.answer };
 
     fn fmt<W: fmt::Write>(&self, f: &mut fmt::Formatter<W>) -> fmt::Result {
-        let number = u8::from(self.refusal);
-        write!(f, "refused with {number}")
-    }
-}
-
-// The name of an arrangement.
-pub fn name_of(by: Arrangement) -> &'static str
-    ensures { result.now ≡ name_text by }
-{
-    match by {
-        Arrangement::Binary => "binary",
-        Arrangement::Decimal => "decimal",
-        Arrangement::Symmetric => "symmetric",
+        match &self.answer {
+            Ok(value) => write!(f, "{value}"),
+            Err(refusal) => write!(f, "refused with {refusal}"),
+        }
     }
 }

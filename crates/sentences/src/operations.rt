@@ -1,10 +1,10 @@
 // Calls that are made with no console.
 ghost use Rattle.std.specs.Prelude.{Some};
 ghost use Rattle.rounding.specs.Refusals.{coded};
-ghost use Rattle.sentences.specs.Operations.{call_text, outcome_text, sentence_text};
+ghost use Rattle.sentences.specs.Operations.{call_text, sentence_text, product_text};
 
-use crate::{Four, Refused, Shown};
-use checked_calls::calls::{Arrangement, Call};
+use crate::{Four, Outcome, Pair, Shown};
+use checked_calls::calls::{Answered, Arrangement, Call};
 use rounding::{Figure, Refusal};
 use std::fmt;
 
@@ -49,53 +49,39 @@ impl fmt::Display for Operands {
     }
 }
 
-// What a call answered: a figure, or a refusal.
-#[derive(Clone, Copy)]
-struct Outcome {
-    by: Arrangement,
-    answer: Result<Figure, Refusal>,
-}
-
-impl fmt::Display for Outcome {
-    ghost output = { λ x. Some (outcome_text x.by (coded x.answer)) };
-
-    fn fmt<W: fmt::Write>(&self, f: &mut fmt::Formatter<W>) -> fmt::Result {
-        match self.answer {
-            Ok(figure) => {
-                let figure = Shown {
-                    by: self.by,
-                    figure,
-                };
-                write!(f, "{figure}")
-            }
-            Err(refusal) => {
-                let refused = Refused { refusal };
-                write!(f, "{refused}")
-            }
-        }
-    }
-}
-
 // A call and what it answered.
 #[derive(Clone, Copy)]
 pub struct Sentence {
-    pub by: Arrangement,
-    pub call: Call,
-    pub answer: Result<Figure, Refusal>,
+    pub made: Answered,
 }
 
 impl fmt::Display for Sentence {
-    ghost output = { λ x. Some (sentence_text x.by x.call (coded x.answer)) };
+    ghost output = { λ x. Some (sentence_text x.made.by x.made.call (coded x.made.answer)) };
 
     fn fmt<W: fmt::Write>(&self, f: &mut fmt::Formatter<W>) -> fmt::Result {
-        let call = Operands {
-            by: self.by,
-            call: self.call,
-        };
-        let outcome = Outcome {
-            by: self.by,
-            answer: self.answer,
-        };
+        let Answered { by, call, answer } = self.made;
+        let call = Operands { by, call };
+        let answer = answer.map(|figure| Shown { by, figure });
+        let outcome = Outcome { answer };
         write!(f, "{call}: {outcome}")
+    }
+}
+
+// A complex product and the real and the imaginary part that it answered.
+#[derive(Clone, Copy)]
+pub struct ProductSentence {
+    pub four: Four,
+    pub answer: Result<(Figure, Figure), Refusal>,
+}
+
+impl fmt::Display for ProductSentence {
+    ghost output = { λ x. Some (product_text x.four (coded x.answer)) };
+
+    fn fmt<W: fmt::Write>(&self, f: &mut fmt::Formatter<W>) -> fmt::Result {
+        let four = self.four;
+        let by = four.by;
+        let answer = self.answer.map(|(a, b)| Pair { by, a, b });
+        let outcome = Outcome { answer };
+        write!(f, "mul {four}: {outcome}")
     }
 }

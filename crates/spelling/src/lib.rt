@@ -1,66 +1,64 @@
 // The text of a figure: its significand, the mark of its kind and its exponent, both numbers in decimal.
 #![tactic(auto)]
 
-ghost use Rattle.std.specs.Prelude.{◌≡◌, ◌≤◌, ◌∷◌, ◌++◌, length, Some};
-ghost use Rattle.std.specs.Fmt.{signed_decimal};
-ghost use Rattle.spelling.specs.Spelled.{spelled, text_of};
+ghost use Rattle.std.specs.Prelude.{◌≡◌, ◌≤◌, length, Some};
+ghost use Rattle.spelling.specs.Spelled.{spelled};
 
+use arrayvec::ArrayVec;
+use itoa::Buffer;
 use kinds::Kind;
 use rounding::Figure;
+use std::marker::Model;
 use std::{fmt, str};
-use text::Spelling;
-use writing::{blank, push, push_signed};
 
-pub mod text;
-mod writing;
-
-// A text that holds a significand.
-fn significand(s: i32) -> Spelling
-    ensures text { text_of result ≡ signed_decimal s }
-    ensures len { result.len ≤ 11 }
-{
-    let mut text = blank();
-    push_signed(&mut text, s);
-    text
+// The longest text of a figure takes 23 bytes: two signs, two numbers of ten digits and a mark. A mark may be any
+// byte, so the text is kept as bytes.
+#[derive(Drop)]
+pub struct Spelling {
+    bytes: ArrayVec<u8, 23>,
 }
 
-// Writes the mark and the exponent behind a significand.
-fn push_exponent(text: &mut Spelling, mark: u8, q: i32)
-    requires { text.old.len ≤ 11 }
-    ensures { text_of text.new ≡ text_of text.old ++ (mark ∷ signed_decimal q) }
-{
-    push(text, mark);
-    push_signed(text, q);
+// Clauses see the bytes of the text.
+impl Model for Spelling {
+    ghost use Rattle.std.specs.Prelude.{ℕ, List};
+
+    ghost Value = { List ℕ };
+
+    ghost view = { λ spelling. spelling.bytes.items };
 }
 
 // The text of `f` under the mark of the kind K. It does not ask that `f` is a figure of that kind, so that a report
 // can show any pair of numbers.
 pub fn spell<K: Kind>(f: Figure) -> Spelling
-    ensures { text_of result ≡ spelled K.MARK f.s f.q }
+    ensures { result ≡ spelled K.MARK f.s f.q }
 {
-    let mut text = significand(f.s);
-    push_exponent(&mut text, K::MARK, f.q);
-    text
+    let mut number = Buffer::new();
+    let mut bytes = ArrayVec::new();
+    bytes
+        .try_extend_from_slice(number.format(f.s).as_bytes())
+        .unwrap();
+    bytes.push(K::MARK);
+    bytes
+        .try_extend_from_slice(number.format(f.q).as_bytes())
+        .unwrap();
+    Spelling { bytes }
 }
 
 impl Spelling {
     // The text as bytes.
     pub fn as_bytes(&self) -> &[u8]
-        ensures text { result.now ≡ text_of self.now }
+        ensures text { result.now ≡ self.now }
         ensures len { length result.now ≤ 23 }
     {
-        let len = self.len;
-        &self.bytes[0..len]
+        self.bytes.as_slice()
     }
 }
 
 impl fmt::Display for Spelling {
-    ghost output = { λ text. Some (text_of text) };
+    ghost output = { λ text. Some text };
 
     fn fmt<W: fmt::Write>(&self, f: &mut fmt::Formatter<W>) -> fmt::Result {
-        match str::from_utf8(self.as_bytes()) {
-            Ok(text) => f.write_str(text),
-            Err(_) => Err(fmt::Error),
-        }
+        let text = str::from_utf8(self.as_bytes()).map_err(|_| fmt::Error)?;
+        f.write_str(text)
     }
 }

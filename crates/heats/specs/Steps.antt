@@ -2,11 +2,11 @@
 use Rattle.std.specs.Prelude.{ℕ, Result}
 use Rattle.rounding.specs.declared.Figure.{Figure}
 use Rattle.figures.specs.Figures.{flipped}
-use Rattle.bounds.specs.Fours.{after}
+use Rattle.rounding.specs.Refusals.{after}
 use Rattle.checked_calls.specs.declared.calls.Arrangement.{Arrangement}
 use Rattle.checked_calls.specs.declared.calls.Call.TheVariants.{Multiply, Add, Fused}
 use Rattle.checked_calls.specs.Calls.{answer_of}
-use Rattle.demo.specs.declared.heat.Heat.{Heat}
+use Rattle.heats.specs.declared.Heat.{Heat}
 
 -- both products rounded, and then their difference
 abbrev pub products_first : Arrangement → Heat → Result Figure ℕ

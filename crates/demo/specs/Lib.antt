@@ -1,2 +1,0 @@
-pub mod Sentences
-pub mod Steps
