@@ -43,6 +43,7 @@ fn row_stands<M: Method>(method: &M, row: &Four) -> Result<(), Fail>
     Ok(())
 }
 
+// Passes only where every row of the table stands.
 fn rows_stand<M: Method>(method: &M, table: &[Four]) -> Result<(), Fail> {
     for row in table {
         row_stands(method, row)?;

@@ -6,6 +6,7 @@ use integers::Integers;
 use kinds::{Binary, Decimal};
 use std::test::Fail;
 
+// Passes only where every operation on the operands of a row has the row's answer.
 fn rows_stand<A: Arithmetic>(
     products: &[Pair],
     sums: &[Pair],
