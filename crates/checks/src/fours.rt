@@ -99,7 +99,8 @@ fn refused_in_each_place<M: Method>(
     bad: Figure,
     want: Refusal,
 ) -> Result<(), Fail>
-    ensures { OnOk result ((faults M.Arith.RADIX M.Arith.PRECISION bad good good good ≡ Some (number want))
+    ensures { OnOk result (
+        (faults M.Arith.RADIX M.Arith.PRECISION bad good good good ≡ Some (number want))
         × (faults M.Arith.RADIX M.Arith.PRECISION good bad good good ≡ Some (number want))
         × (faults M.Arith.RADIX M.Arith.PRECISION good good bad good ≡ Some (number want))
         × (faults M.Arith.RADIX M.Arith.PRECISION good good good bad ≡ Some (number want))) }
@@ -119,7 +120,8 @@ fn refused_by_the_first<M: Method>(
     y: Figure,
     want: Refusal,
 ) -> Result<(), Fail>
-    ensures { OnOk result ((faults M.Arith.RADIX M.Arith.PRECISION x y good good ≡ Some (number want))
+    ensures { OnOk result (
+        (faults M.Arith.RADIX M.Arith.PRECISION x y good good ≡ Some (number want))
         × (faults M.Arith.RADIX M.Arith.PRECISION x good y good ≡ Some (number want))
         × (faults M.Arith.RADIX M.Arith.PRECISION x good good y ≡ Some (number want))
         × (faults M.Arith.RADIX M.Arith.PRECISION good x y good ≡ Some (number want))
