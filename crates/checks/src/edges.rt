@@ -1,7 +1,7 @@
 // The edges: the largest and the smallest figures, zero, every distance between exponents, and pairs of numbers that
-// are no figures. Each test is a function over an arithmetic, so that both kinds are put to the same questions: `least`
-// and `top` are β^(p-1) and β^p, `half` is half of `top`, and half × β^(q-p) is half a last place of a figure at the
-// exponent q.
+// are no figures. Each test is a function over an arithmetic, so that both kinds are put to the same questions: there
+// `least` and `top` are β^(p-1) and β^p, `half` is half of `top`, and half × β^(q-p) is half a last place of a figure
+// at the exponent q.
 use crate::rows::{answers, figure, refuses};
 use figures::arithmetic::Arithmetic;
 use integers::Integers;
