@@ -80,14 +80,20 @@ def odd(digits):
 # ---- files ---------------------------------------------------------------------------------------------------------
 
 
+def figure_text(pair):
+    """A significand and an exponent, as source."""
+    s, q = pair
+    return f"figure!({s}, {q})"
+
+
 def rows_of(title, row, rows):
-    """The lines of a table: each row has words on it, and then its fields, each with a significand and an exponent."""
+    """The lines of a table: each row has words on it, and then its fields, each of which is a figure."""
     lines = ["", f"pub const {title}: [{row}; {len(rows)}] = ["]
     for words, fields in rows:
         lines.append(f"    // {words}")
         lines.append(f"    {row} {{")
-        for field, (s, q) in fields.items():
-            lines.append(f"        {field}: ({s}, {q}),")
+        for field, pair in fields.items():
+            lines.append(f"        {field}: {figure_text(pair)},")
         lines.append("    },")
     return lines + ["];"]
 

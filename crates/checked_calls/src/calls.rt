@@ -2,7 +2,7 @@
 ghost use Rattle.std.specs.Prelude.{◌≡◌, Some};
 ghost use Rattle.rounding.specs.Refusals.{coded};
 ghost use Rattle.checked_calls.specs.Calls.{radix_of, precision_of, method_of, name_text};
-ghost use Rattle.checked_calls.specs.Calls.{answer, answered, answer_of, product_of};
+ghost use Rattle.checked_calls.specs.Calls.{answered, answer_of, product_of};
 
 use figures::arithmetic::Arithmetic;
 use integers::Integers;

@@ -1,172 +1,197 @@
 // The methods against the tables of each kind, and what they refuse, by every call that is made through a method.
-ghost use Rattle.std.specs.Prelude.{◌≡◌, Some, OnOk};
+ghost use Rattle.std.specs.Prelude.{◌≡◌, Some, Ok, OnOk};
+ghost use Rattle.rounding.specs.declared.Figure.{Figure};
+ghost use Rattle.rounding.specs.Refusals.{number, unless};
+ghost use Rattle.figures.specs.Figures.{opposite};
 ghost use Rattle.bounds.specs.Fours.{faults};
-ghost use Rattle.checks.specs.Rows.{figure_of, Stands};
 
-use crate::rows::{Four, answers, answers_both, figure, given, refuses};
+use crate::rows::{Four, answers, figure, refuses};
 use crate::{binary_kahan, binary_symmetric, decimal_kahan};
 use integers::Integers;
+use kinds::format::Format;
 use kinds::{Binary, Decimal};
 use methods::kahan::Kahan;
 use methods::method::Method;
 use products::{complex_product, determinant, sum};
-use rounding::Figure;
+use rounding::Refusal::{OperandNoFigure, OperandRange};
+use rounding::{Figure, Refusal};
 use std::marker::PhantomData;
 use std::test::Fail;
 use symmetric_method::Symmetric;
 
 // Passes only where every call on the operands of the row has the row's answer.
 fn row_stands<M: Method>(method: &M, row: &Four) -> Result<(), Fail>
-    ensures { OnOk result (Stands M.Arith.RADIX M.Arith.PRECISION (M.Method.answer method.now)
-        (figure_of row.now.a) (figure_of row.now.b)
-        (figure_of row.now.c) (figure_of row.now.d)
-        (figure_of row.now.sum) (figure_of row.now.determinant)
-        (figure_of row.now.real) (figure_of row.now.imaginary)) }
+    ensures sum { OnOk result (unless
+        (faults M.Arith.RADIX M.Arith.PRECISION row.now.a row.now.b row.now.c row.now.d)
+        (M.Method.answer method.now row.now.a row.now.b row.now.c row.now.d) ≡ Ok row.now.sum) }
+    ensures determinant { OnOk result (unless
+        (faults M.Arith.RADIX M.Arith.PRECISION row.now.a row.now.b row.now.c row.now.d)
+        (M.Method.answer method.now row.now.a row.now.d (opposite row.now.b) row.now.c)
+        ≡ Ok row.now.determinant) }
+    ensures product { OnOk result (unless {X = Figure × Figure}
+        (faults M.Arith.RADIX M.Arith.PRECISION row.now.a row.now.b row.now.c row.now.d) (
+          M.Method.answer method.now row.now.a row.now.c (opposite row.now.b) row.now.d,
+          M.Method.answer method.now row.now.a row.now.d row.now.b row.now.c,
+        ) ≡ Ok (row.now.real, row.now.imaginary)) }
 {
-    let a = given(row.a);
-    let b = given(row.b);
-    let c = given(row.c);
-    let d = given(row.d);
-    answers(sum(method, a, b, c, d), given(row.sum))?;
-    answers(determinant(method, a, b, c, d), given(row.determinant))?;
-    answers_both(
-        complex_product(method, a, b, c, d),
-        given(row.real),
-        given(row.imaginary),
-    )
+    let Four { a, b, c, d, .. } = *row;
+    answers(sum(method, a, b, c, d), row.sum)?;
+    answers(determinant(method, a, b, c, d), row.determinant)?;
+    let (real, imaginary) = complex_product(method, a, b, c, d)?;
+    answers(Ok(real), row.real)?;
+    answers(Ok(imaginary), row.imaginary)?;
+    Ok(())
 }
 
-macro_rules! rows {
-    ($M:ident, $A:ty, $table:expr) => {{
-        let method = $M::<$A> { arithmetic: PhantomData };
-        for row in &$table {
-            row_stands(&method, row)?;
-        }
-        Ok(())
-    }};
+// Passes only where every row of the table stands.
+fn rows_stand<M: Method>(method: &M, table: &[Four]) -> Result<(), Fail> {
+    for row in table {
+        row_stands(method, row)?;
+    }
+    Ok(())
 }
 
 #[test]
 fn binary_kahan_rows() -> Result<(), Fail> {
-    rows!(Kahan, Integers<Binary>, binary_kahan::FOURS)
+    let method = Kahan::<Integers<Binary>> {
+        arithmetic: PhantomData,
+    };
+    rows_stand(&method, &binary_kahan::FOURS)
 }
 
 #[test]
 fn binary_symmetric_rows() -> Result<(), Fail> {
-    rows!(Symmetric, Integers<Binary>, binary_symmetric::FOURS)
+    let method = Symmetric::<Integers<Binary>> {
+        arithmetic: PhantomData,
+    };
+    rows_stand(&method, &binary_symmetric::FOURS)
 }
 
 #[test]
 fn decimal_kahan_rows() -> Result<(), Fail> {
-    rows!(Kahan, Integers<Decimal>, decimal_kahan::FOURS)
+    let method = Kahan::<Integers<Decimal>> {
+        arithmetic: PhantomData,
+    };
+    rows_stand(&method, &decimal_kahan::FOURS)
 }
 
-// Passes only where every call on the four is refused with the number `code`.
+// Passes only where every call on the four is refused with `want`.
 fn four_refused<M: Method>(
     method: &M,
     a: Figure,
     b: Figure,
     c: Figure,
     d: Figure,
-    code: u8,
+    want: Refusal,
 ) -> Result<(), Fail>
-    ensures { OnOk result (faults M.Arith.RADIX M.Arith.PRECISION a b c d ≡ Some code) }
+    ensures { OnOk result (faults M.Arith.RADIX M.Arith.PRECISION a b c d ≡ Some (number want)) }
 {
-    refuses(sum(method, a, b, c, d), code)?;
-    refuses(determinant(method, a, b, c, d), code)?;
-    refuses(complex_product(method, a, b, c, d), code)
+    refuses(sum(method, a, b, c, d), want)?;
+    refuses(determinant(method, a, b, c, d), want)?;
+    refuses(complex_product(method, a, b, c, d), want)?;
+    Ok(())
 }
 
-// Passes only where `bad` among three times `good` is refused with the number `code`, in each of the four places.
+// Passes only where `bad` among three times `good` is refused with `want`, in each of the four places.
 fn refused_in_each_place<M: Method>(
     method: &M,
     good: Figure,
     bad: Figure,
-    code: u8,
+    want: Refusal,
 ) -> Result<(), Fail>
-    ensures { OnOk result ((faults M.Arith.RADIX M.Arith.PRECISION bad good good good ≡ Some code)
-        × (faults M.Arith.RADIX M.Arith.PRECISION good bad good good ≡ Some code)
-        × (faults M.Arith.RADIX M.Arith.PRECISION good good bad good ≡ Some code)
-        × (faults M.Arith.RADIX M.Arith.PRECISION good good good bad ≡ Some code)) }
+    ensures { OnOk result (
+        (faults M.Arith.RADIX M.Arith.PRECISION bad good good good ≡ Some (number want))
+        × (faults M.Arith.RADIX M.Arith.PRECISION good bad good good ≡ Some (number want))
+        × (faults M.Arith.RADIX M.Arith.PRECISION good good bad good ≡ Some (number want))
+        × (faults M.Arith.RADIX M.Arith.PRECISION good good good bad ≡ Some (number want))) }
 {
-    four_refused(method, bad, good, good, good, code)?;
-    four_refused(method, good, bad, good, good, code)?;
-    four_refused(method, good, good, bad, good, code)?;
-    four_refused(method, good, good, good, bad, code)
+    four_refused(method, bad, good, good, good, want)?;
+    four_refused(method, good, bad, good, good, want)?;
+    four_refused(method, good, good, bad, good, want)?;
+    four_refused(method, good, good, good, bad, want)?;
+    Ok(())
 }
 
-// Passes only where `x` anywhere to the left of `y`, with `good` in the other places, is refused with `code`.
+// Passes only where `x` anywhere to the left of `y`, with `good` in the other places, is refused with `want`.
 fn refused_by_the_first<M: Method>(
     method: &M,
     good: Figure,
     x: Figure,
     y: Figure,
-    code: u8,
+    want: Refusal,
 ) -> Result<(), Fail>
-    ensures { OnOk result ((faults M.Arith.RADIX M.Arith.PRECISION x y good good ≡ Some code)
-        × (faults M.Arith.RADIX M.Arith.PRECISION x good y good ≡ Some code)
-        × (faults M.Arith.RADIX M.Arith.PRECISION x good good y ≡ Some code)
-        × (faults M.Arith.RADIX M.Arith.PRECISION good x y good ≡ Some code)
-        × (faults M.Arith.RADIX M.Arith.PRECISION good x good y ≡ Some code)
-        × (faults M.Arith.RADIX M.Arith.PRECISION good good x y ≡ Some code)) }
+    ensures { OnOk result (
+        (faults M.Arith.RADIX M.Arith.PRECISION x y good good ≡ Some (number want))
+        × (faults M.Arith.RADIX M.Arith.PRECISION x good y good ≡ Some (number want))
+        × (faults M.Arith.RADIX M.Arith.PRECISION x good good y ≡ Some (number want))
+        × (faults M.Arith.RADIX M.Arith.PRECISION good x y good ≡ Some (number want))
+        × (faults M.Arith.RADIX M.Arith.PRECISION good x good y ≡ Some (number want))
+        × (faults M.Arith.RADIX M.Arith.PRECISION good good x y ≡ Some (number want))) }
 {
-    four_refused(method, x, y, good, good, code)?;
-    four_refused(method, x, good, y, good, code)?;
-    four_refused(method, x, good, good, y, code)?;
-    four_refused(method, good, x, y, good, code)?;
-    four_refused(method, good, x, good, y, code)?;
-    four_refused(method, good, good, x, y, code)
+    four_refused(method, x, y, good, good, want)?;
+    four_refused(method, x, good, y, good, want)?;
+    four_refused(method, x, good, good, y, want)?;
+    four_refused(method, good, x, y, good, want)?;
+    four_refused(method, good, x, good, y, want)?;
+    four_refused(method, good, good, x, y, want)?;
+    Ok(())
 }
 
-// What is no figure is refused with 21, also where its exponent is outside -200..200, and a figure whose exponent is
-// outside -200..200 with 22, beside zero and beside the largest operand. Of two such operands the first from the left
+// What is no figure is refused as such, also where its exponent is outside -200..200, and a figure whose exponent is
+// outside -200..200 for that, beside zero and beside the largest operand. Of two such operands the first from the left
 // counts. `least` and `top` are β^(p-1) and β^p.
-macro_rules! refusals {
-    ($M:ident, $A:ty, $least:literal, $top:literal) => {{
-        let method = $M::<$A> { arithmetic: PhantomData };
-        let none = figure(i32::MIN, 0);
-        let far = figure($least, 201);
-        for good in [figure(0, 0), figure($top - 1, 200)] {
-            for (s, q, code) in [
-                (0, 1, 21),
-                (0, -201, 21),
-                (1, 0, 21),
-                ($least - 1, 0, 21),
-                (1 - $least, 201, 21),
-                ($top, 200, 21),
-                (-$top, -200, 21),
-                (i32::MIN, 0, 21),
-                (i32::MIN, 201, 21),
-                (i32::MAX, 0, 21),
-                ($least, 2001, 21),
-                (-$least, -2001, 21),
-                ($least, i32::MIN, 21),
-                (i32::MIN, i32::MIN, 21),
-                ($least, 201, 22),
-                (1 - $top, -201, 22),
-                (-$least, 2000, 22),
-                ($top - 1, -2000, 22),
-            ] {
-                refused_in_each_place(&method, good, figure(s, q), code)?;
-            }
-            refused_by_the_first(&method, good, none, far, 21)?;
-            refused_by_the_first(&method, good, far, none, 22)?;
+fn refusals<M: Method>(method: &M) -> Result<(), Fail> {
+    let format = Format::of::<M::Arith>();
+    let least = format.least as i32;
+    let top = format.top as i32;
+    let none = figure!(i32::MIN, 0);
+    let far = figure!(least, 201);
+    for good in [figure!(0, 0), figure!(top - 1, 200)] {
+        for (bad, want) in [
+            (figure!(0, 1), OperandNoFigure),
+            (figure!(0, -201), OperandNoFigure),
+            (figure!(1, 0), OperandNoFigure),
+            (figure!(least - 1, 0), OperandNoFigure),
+            (figure!(1 - least, 201), OperandNoFigure),
+            (figure!(top, 200), OperandNoFigure),
+            (figure!(-top, -200), OperandNoFigure),
+            (figure!(i32::MIN, 0), OperandNoFigure),
+            (figure!(i32::MIN, 201), OperandNoFigure),
+            (figure!(i32::MAX, 0), OperandNoFigure),
+            (figure!(least, 2001), OperandNoFigure),
+            (figure!(-least, -2001), OperandNoFigure),
+            (figure!(least, i32::MIN), OperandNoFigure),
+            (figure!(i32::MIN, i32::MIN), OperandNoFigure),
+            (figure!(least, 201), OperandRange),
+            (figure!(1 - top, -201), OperandRange),
+            (figure!(-least, 2000), OperandRange),
+            (figure!(top - 1, -2000), OperandRange),
+        ] {
+            refused_in_each_place(method, good, bad, want)?;
         }
-        Ok(())
-    }};
+        refused_by_the_first(method, good, none, far, OperandNoFigure)?;
+        refused_by_the_first(method, good, far, none, OperandRange)?;
+    }
+    Ok(())
 }
 
 #[test]
 fn binary_kahan_refusals() -> Result<(), Fail> {
-    refusals!(Kahan, Integers<Binary>, 8388608, 16777216)
+    refusals(&Kahan::<Integers<Binary>> {
+        arithmetic: PhantomData,
+    })
 }
 
 #[test]
 fn binary_symmetric_refusals() -> Result<(), Fail> {
-    refusals!(Symmetric, Integers<Binary>, 8388608, 16777216)
+    refusals(&Symmetric::<Integers<Binary>> {
+        arithmetic: PhantomData,
+    })
 }
 
 #[test]
 fn decimal_kahan_refusals() -> Result<(), Fail> {
-    refusals!(Kahan, Integers<Decimal>, 1000000, 10000000)
+    refusals(&Kahan::<Integers<Decimal>> {
+        arithmetic: PhantomData,
+    })
 }

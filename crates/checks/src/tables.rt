@@ -1,41 +1,35 @@
 // The arithmetic against the tables of each kind.
-use crate::rows::{answers, given};
+use crate::rows::{Pair, Triple, answers};
 use crate::{binary, decimal};
 use figures::arithmetic::Arithmetic;
 use integers::Integers;
 use kinds::{Binary, Decimal};
 use std::test::Fail;
 
-#[test]
-fn binary_rows() -> Result<(), Fail> {
-    for row in &binary::PRODUCTS {
-        let got = Integers::<Binary>::multiply(given(row.x), given(row.y));
-        answers(got, given(row.answer))?;
+// Passes only where every operation on the operands of a row has the row's answer.
+fn rows_stand<A: Arithmetic>(
+    products: &[Pair],
+    sums: &[Pair],
+    fused: &[Triple],
+) -> Result<(), Fail> {
+    for row in products {
+        answers(A::multiply(row.x, row.y), row.answer)?;
     }
-    for row in &binary::SUMS {
-        let got = Integers::<Binary>::add(given(row.x), given(row.y));
-        answers(got, given(row.answer))?;
+    for row in sums {
+        answers(A::add(row.x, row.y), row.answer)?;
     }
-    for row in &binary::FUSED {
-        let got = Integers::<Binary>::fused(given(row.x), given(row.y), given(row.z));
-        answers(got, given(row.answer))?;
+    for row in fused {
+        answers(A::fused(row.x, row.y, row.z), row.answer)?;
     }
     Ok(())
 }
 
 #[test]
+fn binary_rows() -> Result<(), Fail> {
+    rows_stand::<Integers<Binary>>(&binary::PRODUCTS, &binary::SUMS, &binary::FUSED)
+}
+
+#[test]
 fn decimal_rows() -> Result<(), Fail> {
-    for row in &decimal::PRODUCTS {
-        let got = Integers::<Decimal>::multiply(given(row.x), given(row.y));
-        answers(got, given(row.answer))?;
-    }
-    for row in &decimal::SUMS {
-        let got = Integers::<Decimal>::add(given(row.x), given(row.y));
-        answers(got, given(row.answer))?;
-    }
-    for row in &decimal::FUSED {
-        let got = Integers::<Decimal>::fused(given(row.x), given(row.y), given(row.z));
-        answers(got, given(row.answer))?;
-    }
-    Ok(())
+    rows_stand::<Integers<Decimal>>(&decimal::PRODUCTS, &decimal::SUMS, &decimal::FUSED)
 }

@@ -1,58 +1,76 @@
 // Lanes at the edges of what they hold: the largest and the smallest exponents, and a full lane.
-use crate::rows::Asked::*;
-use crate::rows::Told::*;
+use crate::rows::figure;
 use crate::tables::row_stands;
-use console::Console;
+use console::{Console, Reading};
+use histories::Call::{Read, Turn};
 use integers::Integers;
+use kinds::format::Format;
 use kinds::{Binary, Decimal};
 use methods::kahan::Kahan;
+use methods::method::Method;
+use rounding::Refusal::PhasorRange;
+use runs::Answer::{Count, Shown};
 use std::marker::PhantomData;
 use std::test::Fail;
 use symmetric_method::Symmetric;
 
 // A lane is turned by the radix until its exponent is 200, and another by the radix's inverse until it is -200; once
-// more and it would stray, whichever part holds it. `least` and `digits` are those of a significand.
-macro_rules! driven {
-    ($M:ident, $A:ty, $least:literal, $digits:literal) => {{
-        let mut console = Console::new($M::<$A> {
-            arithmetic: PhantomData,
-        });
-        let radix = ($least, 2 - $digits);
-        let inverse = ($least, 0 - $digits);
-        let one = ($least, 1 - $digits);
-        let zero = (0, 0);
-        for n in 1..=199 + $digits {
-            row_stands(&mut console, Turn(8, radix, zero), Count(n))?;
-        }
-        let top = 199 + $digits;
-        row_stands(&mut console, Turn(8, radix, zero), Refused(33))?;
-        row_stands(&mut console, Turn(8, zero, radix), Refused(33))?;
-        row_stands(&mut console, Read(8), Shown(top, ($least, 200), zero))?;
-        row_stands(&mut console, Turn(8, zero, one), Count(top + 1))?;
-        row_stands(&mut console, Turn(8, radix, zero), Refused(33))?;
-        row_stands(&mut console, Turn(8, inverse, zero), Count(top + 2))?;
-        row_stands(&mut console, Read(8), Shown(top + 2, zero, ($least, 199)))?;
-        for n in 1..=201 - $digits {
-            row_stands(&mut console, Turn(1, zero, inverse), Count(n))?;
-        }
-        row_stands(&mut console, Turn(1, inverse, zero), Refused(33))?;
-        row_stands(&mut console, Turn(1, zero, inverse), Refused(33))?;
-        row_stands(&mut console, Turn(1, one, zero), Count(202 - $digits))?;
-        Ok(())
-    }};
+// more and it would stray, whichever part holds it. `least` is the least significand, of so many digits.
+fn driven<M: Method>(console: &mut Console<M>) -> Result<(), Fail> {
+    let format = Format::of::<M::Arith>();
+    let digits = format.precision;
+    let p = digits as i32;
+    let least = format.least as i32;
+    let radix = figure!(least, 2 - p);
+    let inverse = figure!(least, -p);
+    let one = figure!(least, 1 - p);
+    let zero = figure!(0, 0);
+    let top = 199 + digits;
+    for n in 1..=top {
+        row_stands(console, Turn(8, radix, zero), Ok(Count(n)))?;
+    }
+    row_stands(console, Turn(8, radix, zero), Err(PhasorRange))?;
+    row_stands(console, Turn(8, zero, radix), Err(PhasorRange))?;
+    let shown = Reading {
+        count: top,
+        real: figure!(least, 200),
+        imaginary: zero,
+    };
+    row_stands(console, Read(8), Ok(Shown(shown)))?;
+    row_stands(console, Turn(8, zero, one), Ok(Count(top + 1)))?;
+    row_stands(console, Turn(8, radix, zero), Err(PhasorRange))?;
+    row_stands(console, Turn(8, inverse, zero), Ok(Count(top + 2)))?;
+    let shown = Reading {
+        count: top + 2,
+        real: zero,
+        imaginary: figure!(least, 199),
+    };
+    row_stands(console, Read(8), Ok(Shown(shown)))?;
+    for n in 1..=201 - digits {
+        row_stands(console, Turn(1, zero, inverse), Ok(Count(n)))?;
+    }
+    row_stands(console, Turn(1, inverse, zero), Err(PhasorRange))?;
+    row_stands(console, Turn(1, zero, inverse), Err(PhasorRange))?;
+    row_stands(console, Turn(1, one, zero), Ok(Count(202 - digits)))
 }
 
 #[test]
 fn binary_kahan_driven() -> Result<(), Fail> {
-    driven!(Kahan, Integers<Binary>, 8388608, 24)
+    driven(&mut Console::new(Kahan::<Integers<Binary>> {
+        arithmetic: PhantomData,
+    }))
 }
 
 #[test]
 fn binary_symmetric_driven() -> Result<(), Fail> {
-    driven!(Symmetric, Integers<Binary>, 8388608, 24)
+    driven(&mut Console::new(Symmetric::<Integers<Binary>> {
+        arithmetic: PhantomData,
+    }))
 }
 
 #[test]
 fn decimal_kahan_driven() -> Result<(), Fail> {
-    driven!(Kahan, Integers<Decimal>, 1000000, 7)
+    driven(&mut Console::new(Kahan::<Integers<Decimal>> {
+        arithmetic: PhantomData,
+    }))
 }

@@ -3,8 +3,6 @@
 #![tactic(auto)]
 
 #[cfg(test)]
-mod answers;
-#[cfg(test)]
 mod binary_kahan;
 #[cfg(test)]
 mod binary_symmetric;
@@ -14,6 +12,7 @@ mod decimal_kahan;
 mod edges;
 #[cfg(test)]
 mod refusals;
-pub mod rows;
+#[cfg(test)]
+mod rows;
 #[cfg(test)]
 mod tables;

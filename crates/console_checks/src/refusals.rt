@@ -3,39 +3,30 @@ ghost use Rattle.std.specs.Prelude.{◌≡◌, ℕ, ◌<◌, OnOk};
 ghost use Rattle.lanes.specs.Lanes.{at};
 ghost use Rattle.console.specs.Readings.{reading_of};
 
-use crate::rows::Asked::*;
-use crate::rows::Told::*;
+use crate::rows::figure;
 use crate::tables::row_stands;
 use console::{Console, Reading};
+use histories::Call::{Determinant, Product, Read, Restart, Sum, Turn};
 use integers::Integers;
+use kinds::format::Format;
 use kinds::{Binary, Decimal};
 use methods::kahan::Kahan;
 use methods::method::Method;
-use rounding::Figure;
+use rounding::Refusal::{LaneFull, NoLane, OperandNoFigure, OperandRange, PhasorRange};
+use runs::Answer::Count;
 use std::marker::PhantomData;
 use std::test::Fail;
 use symmetric_method::Symmetric;
-
-// Passes only where the two figures are the same.
-fn same_figure(f: Figure, g: Figure) -> Result<(), Fail>
-    ensures { OnOk result (f ≡ g) }
-{
-    if f.s == g.s && f.q == g.q {
-        Ok(())
-    } else {
-        Err(Fail::new("another part"))
-    }
-}
 
 // Passes only where the two readings are the same.
 fn same_reading(one: Reading, other: Reading) -> Result<(), Fail>
     ensures { OnOk result (one ≡ other) }
 {
-    if one.count != other.count {
-        return Err(Fail::new("another count"));
+    if one == other {
+        Ok(())
+    } else {
+        Err(Fail::new(format_args!("{one:?} beside {other:?}")))
     }
-    same_figure(one.real, other.real)?;
-    same_figure(one.imaginary, other.imaginary)
 }
 
 // Passes only where the lane of this number shows the same on both consoles.
@@ -43,10 +34,7 @@ fn same_lane<M: Method>(one: &Console<M>, other: &Console<M>, lane: u8) -> Resul
     ensures { OnOk result (reading_of (at one.now.lanes lane)
         ≡ reading_of (at other.now.lanes lane)) }
 {
-    match (one.read(lane), other.read(lane)) {
-        (Ok(a), Ok(b)) => same_reading(a, b),
-        _ => Err(Fail::new("a lane is missing")),
-    }
+    same_reading(one.read(lane)?, other.read(lane)?)
 }
 
 // Passes only where every lane of the two consoles shows the same.
@@ -62,84 +50,100 @@ fn same_lanes<M: Method>(one: &Console<M>, other: &Console<M>) -> Result<(), Fai
 
 // Lane 0 at the largest exponent, lane 3 with two turns, lane 6 full, lane 9 at the smallest exponent, the others
 // fresh.
-macro_rules! wear {
-    ($console:expr, $least:literal, $digits:literal) => {{
-        let one = ($least, 1 - $digits);
-        let half = ($least, 0 - $digits);
-        let zero = (0, 0);
-        row_stands($console, Turn(0, ($least, 200), zero), Count(1))?;
-        row_stands($console, Turn(3, half, one), Count(1))?;
-        row_stands($console, Turn(3, one, half), Count(2))?;
-        row_stands($console, Turn(9, zero, ($least, -200)), Count(1))?;
-        for n in 1..=1_000_000 {
-            row_stands($console, Turn(6, one, zero), Count(n))?;
-        }
-    }};
+fn wear<M: Method>(console: &mut Console<M>) -> Result<(), Fail> {
+    let format = Format::of::<M::Arith>();
+    let p = format.precision as i32;
+    let least = format.least as i32;
+    let one = figure!(least, 1 - p);
+    let half = figure!(least, -p);
+    let zero = figure!(0, 0);
+    row_stands(console, Turn(0, figure!(least, 200), zero), Ok(Count(1)))?;
+    row_stands(console, Turn(3, half, one), Ok(Count(1)))?;
+    row_stands(console, Turn(3, one, half), Ok(Count(2)))?;
+    row_stands(console, Turn(9, zero, figure!(least, -200)), Ok(Count(1)))?;
+    for n in 1..=1_000_000 {
+        row_stands(console, Turn(6, one, zero), Ok(Count(n)))?;
+    }
+    Ok(())
 }
 
-// Every refusal of every call, the earlier one where two apply. `least` and `digits` are those of a significand.
-macro_rules! refusals {
-    ($M:ident, $A:ty, $least:literal, $digits:literal) => {{
-        let mut console = Console::new($M::<$A> {
-            arithmetic: PhantomData,
-        });
-        let mut twin = Console::new($M::<$A> {
-            arithmetic: PhantomData,
-        });
-        wear!(&mut console, $least, $digits);
-        wear!(&mut twin, $least, $digits);
-        let one = ($least, 1 - $digits);
-        let zero = (0, 0);
-        let none = (1, 0);
-        let far = ($least, 201);
-        let last = ($least, 200);
-        let low = ($least, -200);
-        for (asked, code) in [
-            (Turn(10, none, far), 31),
-            (Turn(255, one, zero), 31),
-            (Restart(10), 31),
-            (Restart(255), 31),
-            (Read(10), 31),
-            (Read(255), 31),
-            (Turn(3, none, far), 21),
-            (Turn(3, far, none), 22),
-            (Turn(3, one, none), 21),
-            (Turn(3, one, far), 22),
-            (Turn(6, none, zero), 21),
-            (Turn(6, one, far), 22),
-            (Turn(6, one, zero), 32),
-            (Turn(6, last, zero), 32),
-            (Turn(0, last, zero), 33),
-            (Turn(0, zero, last), 33),
-            (Turn(0, far, zero), 22),
-            (Turn(9, low, zero), 33),
-            (Turn(9, zero, low), 33),
-            (Sum(one, none, far, zero), 21),
-            (Sum(one, far, none, zero), 22),
-            (Determinant(one, one, one, none), 21),
-            (Determinant(one, far, one, none), 22),
-            (Product(zero, zero, none, far), 21),
-            (Product(zero, zero, far, none), 22),
-        ] {
-            row_stands(&mut console, asked, Refused(code))?;
-            same_lanes(&console, &twin)?;
-        }
-        row_stands(&mut console, Restart(6), Count(0))?;
-        row_stands(&mut console, Turn(6, one, zero), Count(1))
-    }};
+// Every refusal of every call, the earlier one where two apply, on two new consoles of one method, of which only the
+// first is asked. `least` is the least significand.
+fn refusals<M: Method>(console: &mut Console<M>, twin: &mut Console<M>) -> Result<(), Fail> {
+    wear(console)?;
+    wear(twin)?;
+    let format = Format::of::<M::Arith>();
+    let p = format.precision as i32;
+    let least = format.least as i32;
+    let one = figure!(least, 1 - p);
+    let zero = figure!(0, 0);
+    let none = figure!(1, 0);
+    let far = figure!(least, 201);
+    let last = figure!(least, 200);
+    let low = figure!(least, -200);
+    for (call, refusal) in [
+        (Turn(10, none, far), NoLane),
+        (Turn(255, one, zero), NoLane),
+        (Restart(10), NoLane),
+        (Restart(255), NoLane),
+        (Read(10), NoLane),
+        (Read(255), NoLane),
+        (Turn(3, none, far), OperandNoFigure),
+        (Turn(3, far, none), OperandRange),
+        (Turn(3, one, none), OperandNoFigure),
+        (Turn(3, one, far), OperandRange),
+        (Turn(6, none, zero), OperandNoFigure),
+        (Turn(6, one, far), OperandRange),
+        (Turn(6, one, zero), LaneFull),
+        (Turn(6, last, zero), LaneFull),
+        (Turn(0, last, zero), PhasorRange),
+        (Turn(0, zero, last), PhasorRange),
+        (Turn(0, far, zero), OperandRange),
+        (Turn(9, low, zero), PhasorRange),
+        (Turn(9, zero, low), PhasorRange),
+        (Sum(one, none, far, zero), OperandNoFigure),
+        (Sum(one, far, none, zero), OperandRange),
+        (Determinant(one, one, one, none), OperandNoFigure),
+        (Determinant(one, far, one, none), OperandRange),
+        (Product(zero, zero, none, far), OperandNoFigure),
+        (Product(zero, zero, far, none), OperandRange),
+    ] {
+        row_stands(console, call, Err(refusal))?;
+        same_lanes(console, twin)?;
+    }
+    row_stands(console, Restart(6), Ok(Count(0)))?;
+    row_stands(console, Turn(6, one, zero), Ok(Count(1)))
 }
 
 #[test]
 fn binary_kahan_refusals() -> Result<(), Fail> {
-    refusals!(Kahan, Integers<Binary>, 8388608, 24)
+    let mut console = Console::new(Kahan::<Integers<Binary>> {
+        arithmetic: PhantomData,
+    });
+    let mut twin = Console::new(Kahan::<Integers<Binary>> {
+        arithmetic: PhantomData,
+    });
+    refusals(&mut console, &mut twin)
 }
 
 #[test]
 fn binary_symmetric_refusals() -> Result<(), Fail> {
-    refusals!(Symmetric, Integers<Binary>, 8388608, 24)
+    let mut console = Console::new(Symmetric::<Integers<Binary>> {
+        arithmetic: PhantomData,
+    });
+    let mut twin = Console::new(Symmetric::<Integers<Binary>> {
+        arithmetic: PhantomData,
+    });
+    refusals(&mut console, &mut twin)
 }
 
 #[test]
 fn decimal_kahan_refusals() -> Result<(), Fail> {
-    refusals!(Kahan, Integers<Decimal>, 1000000, 7)
+    let mut console = Console::new(Kahan::<Integers<Decimal>> {
+        arithmetic: PhantomData,
+    });
+    let mut twin = Console::new(Kahan::<Integers<Decimal>> {
+        arithmetic: PhantomData,
+    });
+    refusals(&mut console, &mut twin)
 }

@@ -1,22 +1,15 @@
-// Rows of the tables.
+// Rows of the tables: a call, with its answer or its refusal.
+use histories::Call;
+use rounding::Refusal;
+use runs::Answer;
 
-// A call; each figure is given by its significand and its exponent.
-#[derive(Clone, Copy)]
-pub enum Asked {
-    Sum((i32, i32), (i32, i32), (i32, i32), (i32, i32)),
-    Determinant((i32, i32), (i32, i32), (i32, i32), (i32, i32)),
-    Product((i32, i32), (i32, i32), (i32, i32), (i32, i32)),
-    Turn(u8, (i32, i32), (i32, i32)),
-    Restart(u8),
-    Read(u8),
+pub type Row = (Call, Result<Answer, Refusal>);
+
+// The figure of a significand and an exponent. It stands in tables too, where a constant's value calls no function.
+macro_rules! figure {
+    ($s:expr, $q:expr) => {
+        rounding::Figure { s: $s, q: $q }
+    };
 }
 
-// An answer, or the number of a refusal.
-#[derive(Clone, Copy)]
-pub enum Told {
-    Value((i32, i32)),
-    Parts((i32, i32), (i32, i32)),
-    Count(u32),
-    Shown(u32, (i32, i32), (i32, i32)),
-    Refused(u8),
-}
+pub(crate) use figure;

@@ -1,53 +1,68 @@
 // The console against the runs of the tables.
 ghost use Rattle.std.specs.Prelude.{◌≡◌, OnOk};
+ghost use Rattle.rounding.specs.Refusals.{coded};
 ghost use Rattle.runs.specs.Answers.{answer_to};
-ghost use Rattle.console_checks.specs.Rows.{call_of, answer_of};
 
-use crate::answers::{answers, call_of};
-use crate::rows::{Asked, Told};
+use crate::rows::Row;
 use crate::{binary_kahan, binary_symmetric, decimal_kahan};
 use console::Console;
+use histories::Call;
 use integers::Integers;
 use kinds::{Binary, Decimal};
 use methods::kahan::Kahan;
 use methods::method::Method;
-use runs::perform;
+use rounding::Refusal;
+use runs::{Answer, perform};
 use std::marker::PhantomData;
 use std::test::Fail;
 use symmetric_method::Symmetric;
 
-// Makes the call of a row, and passes only where it has the row's answer.
-pub fn row_stands<M: Method>(console: &mut Console<M>, asked: Asked, told: Told) -> Result<(), Fail>
+// Makes the call of a row, and passes only where it has the row's answer or refusal.
+pub fn row_stands<M: Method>(
+    console: &mut Console<M>,
+    call: Call,
+    told: Result<Answer, Refusal>,
+) -> Result<(), Fail>
     ensures { OnOk result (answer_to M.Arith.RADIX M.Arith.PRECISION
-        (M.Method.answer console.old.method) console.old.lanes (call_of asked)
-        ≡ answer_of told) }
+        (M.Method.answer console.old.method) console.old.lanes call
+        ≡ coded told) }
 {
-    answers(perform(console, call_of(asked)), told)
+    let got = perform(console, call);
+    if got == told {
+        Ok(())
+    } else {
+        Err(Fail::new(format_args!("{got:?} in place of {told:?}")))
+    }
 }
 
-macro_rules! run {
-    ($M:ident, $A:ty, $table:expr) => {{
-        let mut console = Console::new($M::<$A> {
-            arithmetic: PhantomData,
-        });
-        for row in &$table {
-            row_stands(&mut console, row.0, row.1)?;
-        }
-        Ok(())
-    }};
+// Makes the calls of a table in order, and passes only where each row stands.
+fn rows_stand<M: Method>(console: &mut Console<M>, table: &[Row]) -> Result<(), Fail> {
+    for &(call, told) in table {
+        row_stands(console, call, told)?;
+    }
+    Ok(())
 }
 
 #[test]
 fn binary_kahan_run() -> Result<(), Fail> {
-    run!(Kahan, Integers<Binary>, binary_kahan::RUN)
+    let mut console = Console::new(Kahan::<Integers<Binary>> {
+        arithmetic: PhantomData,
+    });
+    rows_stand(&mut console, &binary_kahan::RUN)
 }
 
 #[test]
 fn binary_symmetric_run() -> Result<(), Fail> {
-    run!(Symmetric, Integers<Binary>, binary_symmetric::RUN)
+    let mut console = Console::new(Symmetric::<Integers<Binary>> {
+        arithmetic: PhantomData,
+    });
+    rows_stand(&mut console, &binary_symmetric::RUN)
 }
 
 #[test]
 fn decimal_kahan_run() -> Result<(), Fail> {
-    run!(Kahan, Integers<Decimal>, decimal_kahan::RUN)
+    let mut console = Console::new(Kahan::<Integers<Decimal>> {
+        arithmetic: PhantomData,
+    });
+    rows_stand(&mut console, &decimal_kahan::RUN)
 }

@@ -1,6 +1,0 @@
--- What is added only shrinks, so that every sum of the loop fits.
-use Rattle.std.proofs.Common.{◌≤◌}
-use Rattle.checks.proofs.edges.decimal_distances.Given as goal
-
-abbrev pub invariant-loop-d : goal.invariant-loop-d
-invariant-loop-d l = l.finer ≤ 5000000
