@@ -20,6 +20,7 @@ use Rattle.kinds.specs.Kinds.{IsKind}
 use Rattle.kinds.proofs.Sizes.{radix_two, few_digits}
 use Rattle.bounds.specs.Fours.{Accepted, exact_sum, limit_num, limit_den, UpperLimit}
 use Rattle.rounding.specs.Rounding.{rounded}
+use Rattle.bounds.specs.Methods.{IsReliable}
 use Rattle.bounds.specs.Kahan.{rounded_product, product_error, kahan}
 use Rattle.bounds.specs.Symmetric.{symmetric}
 use Rattle.bounds.proofs.Laws.{Laws}
@@ -201,3 +202,23 @@ limit_some β p kind = go (β ^ (p - 1)) kind.2
         let two : 24 * 24 ≤ B * B = mul-le-mul h h in
         let three : 24 * 24 * 24 ≤ B * B * B = mul-le-mul two h in
         omega arith
+
+-- both methods are reliable
+pub kahan_reliable : (β p : ℕ) → IsKind β p → IsReliable β p 1 (β ^ (p - 1)) (kahan β p)
+kahan_reliable β p kind = record {
+  positive = power_pos β (p - 1) (radix_two β p kind);
+  limit = kahan_limit (β ^ (p - 1));
+  figure = kahan_figure β p kind;
+  range = kahan_range β p kind;
+  near = kahan_within β p kind;
+}
+
+pub symmetric_reliable : (β p : ℕ) → IsKind β p
+    → IsReliable β p (limit_num (β ^ (p - 1))) (limit_den (β ^ (p - 1))) (symmetric β p)
+symmetric_reliable β p kind = record {
+  positive = limit_some β p kind;
+  limit = symmetric_at_limit (β ^ (p - 1));
+  figure = symmetric_figure β p kind;
+  range = symmetric_range β p kind;
+  near = symmetric_limit β p kind;
+}

@@ -1,4 +1,5 @@
 pub mod Fours
+pub mod Methods
 pub mod Kahan
 pub mod Symmetric
 pub mod Accuracy

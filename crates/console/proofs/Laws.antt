@@ -3,7 +3,7 @@ use Rattle.std.proofs.Common.{◌≡◌, ℕ, ◌+◌, List, Some, None, Ok, Err
 use Rattle.rounding.specs.declared.Figure.{Figure}
 use Rattle.rounding.specs.Refusals.{unless}
 use Rattle.kinds.specs.Kinds.{IsKind}
-use Rattle.phasors.specs.Phasors.{Function}
+use Rattle.bounds.specs.Methods.{Function, IsReliable}
 use Rattle.lanes.specs.declared.Lane.{Lane}
 use Rattle.lanes.specs.Lanes.{at, put, fresh_lane}
 use Rattle.lanes.specs.Turning.{no_lane, turned_by, turn_fault, after_turn, after_restart}
@@ -11,7 +11,7 @@ use Rattle.histories.specs.declared.Call.TheVariants.{Read}
 use Rattle.histories.specs.Histories.{course}
 use Rattle.histories.specs.Tracking.{Tracks}
 use Rattle.histories.proofs.Faults.{lane_there}
-use Rattle.histories.proofs.Tracking.{Reliable, still, restart_keeps_track, turn_keeps_track}
+use Rattle.histories.proofs.Tracking.{still, restart_keeps_track, turn_keeps_track}
 use Rattle.console.specs.declared.Reading.{Reading}
 use Rattle.console.specs.Readings.{reading_of, shown_lane}
 use Rattle.console.specs.Steps.{turn_steps}
@@ -51,7 +51,7 @@ module _ (β p : ℕ) (kind : IsKind β p) (N D : ℕ) (ls : List Lane) where
       };
     }
 
-    module _ (m : Function) (law : Reliable β p N D m) (c d : Figure) where
+    module _ (m : Function) (law : IsReliable β p N D m) (c d : Figure) where
       stopped : (n : ℕ) → Err n ≡ turn_steps β p m ls i c d → turn_fault β p m ls i c d ≡ Some n
       stopped n e =
           refused (turn_fault β p m ls i c d) (turned_by m (at ls i) c d) n (e ∙ turn_steps_lem β p m ls i c d)

@@ -4,7 +4,7 @@ use Rattle.rounding.specs.declared.Figure.{Figure}
 use Rattle.rounding.specs.Refusals.{unless}
 use Rattle.figures.specs.Figures.{opposite}
 use Rattle.bounds.specs.Fours.{faults}
-use Rattle.phasors.specs.Phasors.{Function}
+use Rattle.bounds.specs.Methods.{Function}
 use Rattle.lanes.specs.declared.Lane.{Lane}
 use Rattle.lanes.specs.Lanes.{at, put, fresh_lane}
 use Rattle.lanes.specs.Turning.{no_lane, turn_fault, after_turn, after_restart}

@@ -4,8 +4,8 @@ use Rattle.rounding.specs.declared.Figure.{Figure}
 use Rattle.rounding.specs.Refusals.{unless, after}
 use Rattle.figures.specs.Figures.{opposite}
 use Rattle.bounds.specs.Fours.{fault, faults}
+use Rattle.bounds.specs.Methods.{Function}
 use Rattle.phasors.specs.declared.Phasor.{Phasor}
-use Rattle.phasors.specs.Phasors.{Function}
 use Rattle.lanes.specs.declared.Lane.{Lane}
 use Rattle.lanes.specs.Lanes.{at}
 use Rattle.lanes.specs.Turning.{no_lane, full, strayed}

@@ -7,7 +7,8 @@ use Rattle.rounding.specs.Operations.{is_figure, reaches}
 use Rattle.rounding.specs.Refusals.{number, first}
 use Rattle.bounds.specs.Fours.{fault, faults, Accepted}
 use Rattle.bounds.proofs.Operands.{none_first}
-use Rattle.phasors.specs.Phasors.{Function, product_by}
+use Rattle.bounds.specs.Methods.{Function}
+use Rattle.phasors.specs.Phasors.{product_by}
 use Rattle.lanes.specs.declared.Lane.{Lane}
 use Rattle.lanes.specs.Turning.{no_lane, full, far, strayed, lane_fault}
 

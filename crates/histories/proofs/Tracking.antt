@@ -14,7 +14,8 @@ use Rattle.kinds.proofs.Sizes.{radix_two}
 use Rattle.bounds.specs.Fours.{fault, Accepted, exact_sum}
 use Rattle.bounds.proofs.Operands.{none_first}
 use Rattle.bounds.proofs.Orders.{real_accepted, imaginary_accepted}
-use Rattle.phasors.specs.Phasors.{Function, product_by}
+use Rattle.bounds.specs.Methods.{Function, IsReliable}
+use Rattle.phasors.specs.Phasors.{product_by}
 use Rattle.phasors.proofs.Fresh.{one_accepted, unit_near}
 use Rattle.phasors.proofs.Turns.{near_more}
 use Rattle.lanes.specs.declared.Lane.{Lane}
@@ -25,11 +26,6 @@ use Rattle.histories.specs.declared.Call.TheVariants.{Turn, Restart}
 use Rattle.histories.specs.Histories.{History, Course, begun, further, moved, course}
 use Rattle.histories.specs.Tracking.{Tracks, TrackHistory, event, KeepsTrack}
 use Rattle.histories.proofs.Faults.{lane_there, Turnable, turnable}
-
--- what is relied on of a method
-pub record Reliable (β p N D : ℕ) (m : Function) : Type 0 where
-  pub figure : (a b c d : Figure) → Accepted β p a b c d → is_figure β p (m a b c d) ≡ true
-  pub near : (a b c d : Figure) → Accepted β p a b c d → Within β N D (value (m a b c d)) (exact_sum β a b c d)
 
 module _ (β p : ℕ) (kind : IsKind β p) (N D : ℕ) where
   fresh_tracks : Tracks β p N D begun (fresh_lane β p)
@@ -106,7 +102,7 @@ module _ (β p : ℕ) (kind : IsKind β p) (N D : ℕ) where
         each = replaced ls j (fresh_lane β p) (λ s. begun) h (lane_there j none) track fresh_tracks;
       })
 
-  module _ (m : Function) (law : Reliable β p N D m) where
+  module _ (m : Function) (law : IsReliable β p N D m) where
     -- an accepted turn by c + di
     turned_tracks : (s : Course) (l : Lane) (c d : Figure) → lane_fault β p m l c d ≡ None → Tracks β p N D s l
         → Tracks β p N D (further β c d s) (turned_by m l c d)

@@ -5,8 +5,9 @@ use Rattle.rounding.specs.declared.Refusal.TheVariants.{NoLane, LaneFull, Phasor
 use Rattle.rounding.specs.Operations.{reaches}
 use Rattle.rounding.specs.Refusals.{number, first, kept}
 use Rattle.bounds.specs.Fours.{fault, faults}
+use Rattle.bounds.specs.Methods.{Function}
 use Rattle.phasors.specs.declared.Phasor.{Phasor}
-use Rattle.phasors.specs.Phasors.{Function, product_by}
+use Rattle.phasors.specs.Phasors.{product_by}
 use Rattle.lanes.specs.declared.Lane.{Lane}
 use Rattle.lanes.specs.Lanes.{at, put, fresh_lane}
 

@@ -5,7 +5,7 @@ ghost use Rattle.rounding.specs.Errors.{Within, WithinPlaces, UlpIsLastPlace};
 ghost use Rattle.rounding.specs.Refusals.{unless, coded};
 ghost use Rattle.bounds.specs.Fours.{faults, Accepted, exact_sum};
 ghost use Rattle.bounds.specs.Kahan.{kahan, kahan_steps};
-ghost use Rattle.bounds.proofs.Answers.{kahan_limit, kahan_figure, kahan_range, kahan_within};
+ghost use Rattle.bounds.proofs.Answers.{kahan_reliable};
 ghost use Rattle.std.proofs.Common.{rules};
 
 use crate::check_operands;
@@ -54,15 +54,7 @@ impl<A: Arithmetic> Method for Kahan<A> {
 
     ghost den = { λ m. A.RADIX ^ (A.PRECISION - 1) };
 
-    ghost positive = { Prim.search rules };
-
-    ghost limit = { λ m. kahan_limit _ };
-
-    ghost figure = { λ m a b c d. kahan_figure _ _ A.kind a b c d };
-
-    ghost range = { λ m a b c d. kahan_range _ _ A.kind a b c d };
-
-    ghost near = { λ m a b c d. kahan_within _ _ A.kind a b c d };
+    ghost reliable = { λ m. kahan_reliable _ _ A.kind };
 
     // The answer is within 1/B of ab + cd, and within (β + 1)/2 units of its last place.
     fn apply(&self, a: Figure, b: Figure, c: Figure, d: Figure) -> Result<Figure, Refusal>

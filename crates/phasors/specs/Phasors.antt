@@ -3,15 +3,12 @@ use Rattle.std.specs.Prelude.{ℕ}
 use Rattle.rounding.specs.declared.Figure.{Figure}
 use Rattle.rounding.specs.Rounding.{zero_figure}
 use Rattle.figures.specs.Figures.{one_figure, opposite}
+use Rattle.bounds.specs.Methods.{Function}
 use Rattle.phasors.specs.declared.Phasor.{Phasor}
 
 -- one and zero
 abbrev pub unit : ℕ → ℕ → Phasor
 unit β p = record { real = one_figure β p; imaginary = zero_figure }
-
--- a method's function for ab + cd
-abbrev pub Function : Type 0
-Function = Figure → Figure → Figure → Figure → Figure
 
 -- the complex product of w with c + di by the method m, w first
 abbrev pub product_by : Function → Phasor → Figure → Figure → Phasor

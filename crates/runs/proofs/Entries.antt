@@ -7,14 +7,14 @@ use Rattle.rounding.specs.declared.Refusal.{Refusal}
 use Rattle.rounding.specs.Refusals.{coded}
 use Rattle.rounding.specs.Rounding.{zero_figure}
 use Rattle.kinds.specs.Kinds.{IsKind}
-use Rattle.phasors.specs.Phasors.{Function}
+use Rattle.bounds.specs.Methods.{Function, IsReliable}
 use Rattle.lanes.specs.declared.Lane.{Lane}
 use Rattle.lanes.specs.Lanes.{fresh_lane}
 use Rattle.histories.specs.declared.Call.{Call}
 use Rattle.histories.specs.declared.Call.TheVariants.{Sum}
 use Rattle.histories.specs.Histories.{History}
 use Rattle.histories.specs.Tracking.{TrackHistory, event}
-use Rattle.histories.proofs.Tracking.{Reliable, fresh_track}
+use Rattle.histories.proofs.Tracking.{fresh_track}
 use Rattle.runs.specs.declared.Answer.{Answer}
 use Rattle.runs.specs.declared.Answer.TheVariants.{Value}
 use Rattle.runs.specs.declared.Entry.{Entry}
@@ -87,7 +87,7 @@ module _ (β p : ℕ) (m : Function) (from : List Lane) (cs : List Call) where
       )
 
 -- the law over a run whose answers are those to its calls
-module _ (β p : ℕ) (kind : IsKind β p) (N D : ℕ) (m : Function) (law : Reliable β p N D m) where
+module _ (β p : ℕ) (kind : IsKind β p) (N D : ℕ) (m : Function) (law : IsReliable β p N D m) where
   run_tracks : (es : List Entry) (ls : List Lane) (h : History) → answers_of es ≡ answers_to β p m ls (calls_of es)
       → TrackHistory β p N D h ls
       → TrackHistory β p N D (history_of es h) (lanes_after_all β p m ls (calls_of es)) × AllFollow β p N D m h es

@@ -9,8 +9,9 @@ use Rattle.kinds.specs.Kinds.{IsKind}
 use Rattle.bounds.specs.Fours.{fault, faults}
 use Rattle.bounds.proofs.Operands.{none_first}
 use Rattle.bounds.proofs.Orders.{together}
+use Rattle.bounds.specs.Methods.{Function, IsReliable}
 use Rattle.phasors.specs.declared.Phasor.{Phasor}
-use Rattle.phasors.specs.Phasors.{Function, product_by}
+use Rattle.phasors.specs.Phasors.{product_by}
 use Rattle.lanes.specs.declared.Lane.{Lane}
 use Rattle.lanes.specs.Lanes.{at}
 use Rattle.lanes.specs.Turning.{no_lane, far, strayed, turn_fault}
@@ -19,7 +20,7 @@ use Rattle.histories.specs.declared.Call.TheVariants.{Sum, Determinant, Product,
 use Rattle.histories.specs.Histories.{History, course}
 use Rattle.histories.specs.Tracking.{TrackHistory, event, is_refused, KeepsTrack}
 use Rattle.histories.proofs.Faults.{lane_there}
-use Rattle.histories.proofs.Tracking.{Reliable, still, restart_keeps_track, turn_keeps_track}
+use Rattle.histories.proofs.Tracking.{still, restart_keeps_track, turn_keeps_track}
 use Rattle.console.specs.Readings.{reading_of}
 use Rattle.runs.specs.declared.Answer.{Answer}
 use Rattle.runs.specs.declared.Answer.TheVariants.{Count, Shown}
@@ -52,7 +53,7 @@ strays w = go (reaches 200 w.real) (reaches 200 w.imaginary)
     go true false = inr refl
     go false y = inr refl
 
-module _ (β p : ℕ) (kind : IsKind β p) (N D : ℕ) (m : Function) (law : Reliable β p N D m) (ls : List Lane) where
+module _ (β p : ℕ) (kind : IsKind β p) (N D : ℕ) (m : Function) (law : IsReliable β p N D m) (ls : List Lane) where
   keeps : {X : Type 0} (call : Call) (f : X → Answer) (r : Result X ℕ) (after : List Lane)
       → KeepsTrack β p N D (event call r) ls after → KeepsTrack β p N D (event call (mapped f r)) ls after
   keeps call f r after h =

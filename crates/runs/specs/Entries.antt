@@ -2,7 +2,7 @@
 use Rattle.std.specs.Prelude.{ℕ, List, [], ◌∷◌, map, Err, Result}
 use Rattle.rounding.specs.declared.Refusal.TheVariants.{NoLane}
 use Rattle.rounding.specs.Refusals.{coded}
-use Rattle.phasors.specs.Phasors.{Function}
+use Rattle.bounds.specs.Methods.{Function}
 use Rattle.lanes.specs.declared.Lane.{Lane}
 use Rattle.histories.specs.declared.Call.{Call}
 use Rattle.histories.specs.Histories.{Event, History}

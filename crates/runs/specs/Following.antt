@@ -5,7 +5,7 @@ use Rattle.rounding.specs.declared.Refusal.TheVariants.{LaneFull, PhasorRange}
 use Rattle.rounding.specs.Refusals.{number, first, unless}
 use Rattle.figures.specs.Figures.{opposite}
 use Rattle.bounds.specs.Fours.{fault, faults}
-use Rattle.phasors.specs.Phasors.{Function}
+use Rattle.bounds.specs.Methods.{Function}
 use Rattle.lanes.specs.declared.Lane.{Lane}
 use Rattle.lanes.specs.Turning.{no_lane}
 use Rattle.histories.specs.declared.Call.{Call}

@@ -8,8 +8,7 @@ ghost use Rattle.rounding.specs.Errors.{Within};
 ghost use Rattle.rounding.specs.Refusals.{unless, coded};
 ghost use Rattle.bounds.specs.Fours.{faults, Accepted, exact_sum, limit_num, limit_den};
 ghost use Rattle.bounds.specs.Symmetric.{symmetric, symmetric_steps};
-ghost use Rattle.bounds.proofs.Answers.{limit_some, symmetric_at_limit, symmetric_figure, symmetric_range};
-ghost use Rattle.bounds.proofs.Answers.{symmetric_limit};
+ghost use Rattle.bounds.proofs.Answers.{symmetric_reliable};
 
 use figures::arithmetic::BinaryArithmetic;
 use figures::opposite;
@@ -61,15 +60,7 @@ impl<A: BinaryArithmetic> Method for Symmetric<A> {
 
     ghost den = { λ m. limit_den (A.RADIX ^ (A.PRECISION - 1)) };
 
-    ghost positive = { λ m. limit_some _ _ A.kind };
-
-    ghost limit = { λ m. symmetric_at_limit _ };
-
-    ghost figure = { λ m a b c d. symmetric_figure _ _ A.kind a b c d };
-
-    ghost range = { λ m a b c d. symmetric_range _ _ A.kind a b c d };
-
-    ghost near = { λ m a b c d. symmetric_limit _ _ A.kind a b c d };
+    ghost reliable = { λ m. symmetric_reliable _ _ A.kind };
 
     // The answer is within (4B² + 7B + 3)/(4B³) of ab + cd, and it is the answer to c, d, a, b.
     fn apply(&self, a: Figure, b: Figure, c: Figure, d: Figure) -> Result<Figure, Refusal>

@@ -33,7 +33,6 @@ returns g c =
     let done : length c.loop-entry.entries ≤ c.loop-entry.entry-index = omega (arith, c.loop-entry-test.false) in
     let made = c.loop-entry.invariant in
     let all = made_all _ _ _ _ _ c.loop-entry.entry-index c.loop-entry.entries _ made.0 done in
-    let laws = g.met.M.Method in
     let method = c.args.console.now.method in
     record {
       calls = made.0.calls;
@@ -41,6 +40,6 @@ returns g c =
       lanes = all.1;
       method = made.1;
       tracked = run_tracked _ _ g.M.Arith.Kind.kind _ _ _
-          (record { figure = laws.figure method; near = laws.near method }) _ _ _ _
+          (g.met.M.Method.reliable method) _ _ _ _
           made.0.calls all.0 all.1;
     }
