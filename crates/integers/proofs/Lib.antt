@@ -4,4 +4,3 @@ mod Rounds
 mod Rises
 mod Joins
 mod Alignments
-mod Signs

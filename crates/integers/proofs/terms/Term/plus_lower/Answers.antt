@@ -9,20 +9,19 @@ use Rattle.integers.proofs.Rises.{below_double}
 use Rattle.integers.proofs.Rounds.{nearest_rounds}
 use Rattle.rounding.proofs.Units.{plus_comm}
 use Rattle.integers.proofs.Alignments.{aligned_stands}
-use Rattle.integers.proofs.sum.sum_down.Goals as goal
+use Rattle.integers.proofs.terms.Term.plus_lower.Goals as goal
 
 pub returns : goal.returns
 returns c =
     let β = c.args.format.radix in
     let p = c.args.format.precision in
-    let stands = aligned_stands β p c.args.format.kind c.args.high c.args.low c.requires.order
-    (below_double β p c.args.format.top c.args.high.size c.args.format.top_is c.requires.sizes.0)
-    (below_double β p c.args.format.top c.args.low.size c.args.format.top_is c.requires.sizes.1) in
-    let is = ap (nearest_figure β p) c.aligned.ensures.is
-    ∙ nearest_rounds β p c.args.format.kind (plus β (worth c.args.high) (worth c.args.low))
-    (aligned_sum β p c.args.high c.args.low) stands in
+    let stands = aligned_stands β p c.args.format.kind c.args.self c.args.low c.requires.order
+    (below_double β p c.args.format.top c.args.self.size c.args.format.top_is c.requires.high.size)
+    (below_double β p c.args.format.top c.args.low.size c.args.format.top_is c.requires.low.size) in
+    let is = ap (nearest_figure β p) c.aligned.ensures
+    ∙ nearest_rounds β p c.args.format.kind (plus β (worth c.args.self) (worth c.args.low))
+    (aligned_sum β p c.args.self c.args.low) stands in
     record {
       is = is;
-      too = is ∙ ap (rounded β p) (plus_comm β (worth c.args.high) (worth c.args.low));
-      small = c.aligned.ensures.small;
+      too = is ∙ ap (rounded β p) (plus_comm β (worth c.args.self) (worth c.args.low));
     }
