@@ -11,16 +11,19 @@ use Rattle.std.proofs.lemmas.Bool.Decides.{nat_tests}
 use Rattle.whole.proofs.Comparisons.{size_same}
 use Rattle.whole.proofs.Powers.{power_pos, power_le, power_one, power_split, power_parts}
 use Rattle.rounding.specs.Exact.{Exact, units, plus}
-use Rattle.rounding.specs.Rounding.{signed}
+use Rattle.rounding.specs.Rounding.{signed, rounded}
 use Rattle.rounding.proofs.Signs.{signed_times}
+use Rattle.rounding.proofs.Units.{plus_comm}
 use Rattle.kinds.specs.Kinds.{IsKind}
 use Rattle.kinds.proofs.Sizes.{radix_two}
 use Rattle.integers.specs.declared.terms.Term.{Term}
-use Rattle.integers.specs.Terms.{Truncation, worth, lifted, exact}
+use Rattle.integers.specs.Terms.{Truncation, IsAddend, worth, lifted, exact}
+use Rattle.integers.specs.Rounding.{nearest_figure}
 use Rattle.integers.specs.Sums.{rise, aligned_at, aligned_sum}
 use Rattle.integers.proofs.Truncations.{Stands, clash}
-use Rattle.integers.proofs.Rises.{Rise, rise_of}
+use Rattle.integers.proofs.Rises.{Rise, rise_of, below_double}
 use Rattle.integers.proofs.Joins.{Joined, joined}
+use Rattle.integers.proofs.Rounds.{nearest_rounds}
 
 -- h and l added at the exponent of l
 abbrev lowered : ℕ → Term → Term → Exact
@@ -164,7 +167,7 @@ module _ (β p : ℕ) (kind : IsKind β p) (h l : Term) (le : l.exponent ≤ℤ 
       long e (inr none) = clash (sym (j.exact (omega arith)) ∙ e)
       long e (inl some) = still_long β p h.size d i l.size u.term.size kind up short some j.near
 
-  pub aligned_stands : h.size < β ^ (2 * p) → l.size < β ^ (2 * p)
+  aligned_stands : h.size < β ^ (2 * p) → l.size < β ^ (2 * p)
       → Stands β p (plus β (worth h) (worth l)) (aligned_sum β p h l)
   aligned_stands high low =
       subst (λ (x : Exact). Stands β p x (aligned_sum β p h l)) (lowered_plus β h l le)
@@ -176,3 +179,20 @@ module _ (β p : ℕ) (kind : IsKind β p) (h l : Term) (le : l.exponent ≤ℤ 
 
       i : ℕ
       i = rise β p h.size d
+
+-- what is aligned rounds as the sum does
+pub aligned_rounds : (β p top : ℕ) (h l : Term) → IsKind β p → top ≡ β ^ p → IsAddend top h → IsAddend top l
+    → l.exponent ≤ℤ h.exponent
+    → nearest_figure β p (aligned_sum β p h l) ≡ rounded β p (plus β (worth h) (worth l))
+aligned_rounds β p top h l kind e high low le =
+    nearest_rounds β p kind (plus β (worth h) (worth l)) (aligned_sum β p h l)
+    (aligned_stands β p kind h l le (below_double β p top h.size e high.size) (below_double β p top l.size e low.size))
+
+-- and as the sum does where it is written from the lower term
+pub aligned_rounds_turned : (β p top : ℕ) (h l : Term) → IsKind β p → top ≡ β ^ p → IsAddend top h → IsAddend top l
+    → l.exponent ≤ℤ h.exponent
+    → nearest_figure β p (aligned_sum β p h l) ≡ rounded β p (plus β (worth l) (worth h))
+aligned_rounds_turned β p top h l kind e high low le =
+    aligned_rounds β p top h l kind e high low le ∙ ap (rounded β p) (plus_comm β (worth h) (worth l))
+
+pub ruleset sums_round = (aligned_rounds, aligned_rounds_turned)

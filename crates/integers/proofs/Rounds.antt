@@ -17,10 +17,11 @@ use Rattle.rounding.proofs.Signs.{signed_size}
 use Rattle.rounding.proofs.Computed.{rounded_zero, rounded_of}
 use Rattle.kinds.specs.Kinds.{IsKind}
 use Rattle.kinds.proofs.Sizes.{radix_two}
-use Rattle.integers.specs.Terms.{Truncation}
+use Rattle.integers.specs.declared.terms.Term.{Term}
+use Rattle.integers.specs.Terms.{Truncation, exact, worth}
 use Rattle.integers.specs.Rounding.{one_if, extended_figure, shortened_figure, nearest_figure}
 use Rattle.integers.proofs.Lengths.{Length, Shortened, length_of, appended_high, appended_low, shortened}
-use Rattle.integers.proofs.Truncations.{Stands}
+use Rattle.integers.proofs.Truncations.{Stands, plain_stands}
 
 negative_signed : (neg : Bool) (n : ℕ) → 0 < n → negative (signed neg n) ≡ neg
 negative_signed neg zero some = absurd (omega arith)
@@ -196,3 +197,7 @@ module _ (β p : ℕ) (kind : IsKind β p) (x : Exact) (t : Truncation) (s : Sta
           cond_both (leb d p) _ _ (λ (f : Figure). f ≡ rounded β p x)
           (λ short. extended_rounds d length (grind (arith, nat_tests)) some)
           (λ past. shortened_rounds d length (grind (arith, nat_tests)))
+
+-- a term with nothing below it rounds as its worth does
+pub exact_rounds : (β p : ℕ) (t : Term) → IsKind β p → nearest_figure β p (exact t) ≡ rounded β p (worth t)
+exact_rounds β p t kind = nearest_rounds β p kind (worth t) (exact t) (plain_stands β p t (radix_two β p kind))

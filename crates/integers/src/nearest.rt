@@ -75,17 +75,19 @@ impl Truncated {
         requires few { by ≤ 64 }
         ensures { result ≡ shortened_figure format.radix format.precision self by }
     {
+        let Truncated { term, sticky } = self;
         let unit = scaled(format.radix, 1, by);
-        let (quotient, remainder) = format.split(self.term.size, by);
+        let (quotient, remainder) = format.split(term.size, by);
         let rounded = Term {
-            negative: self.term.negative,
-            size: evened(quotient, remainder, unit, self.sticky),
-            exponent: self.term.exponent + by as i32,
+            negative: term.negative,
+            size: evened(quotient, remainder, unit, sticky),
+            exponent: term.exponent + by as i32,
         };
         rounded.renormalized(format)
     }
 
     // The figure of p digits nearest to what this stands for.
+    #[tactic(auto, using(crate::proofs::Lengths::brought_to_precision))]
     pub(crate) fn nearest(self, format: Format) -> Figure
         ensures { result ≡ nearest_figure format.radix format.precision self }
     {

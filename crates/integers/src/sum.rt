@@ -62,6 +62,7 @@ impl Term {
     }
 
     // The sum with a term at a lower power.
+    #[tactic(auto, using(crate::proofs::Rises::risen_below))]
     fn aligned(self, format: Format, low: Term) -> Truncated
         requires high { IsAddend format.top self }
         requires low { IsAddend format.top low }
@@ -75,6 +76,7 @@ impl Term {
     }
 
     // The same, with what it is for: it rounds as the exact sum does, in whichever order that is written.
+    #[tactic(auto, using(crate::proofs::Alignments::sums_round))]
     fn plus_lower(self, format: Format, low: Term) -> Truncated
         requires high { IsAddend format.top self }
         requires low { IsAddend format.top low }

@@ -51,6 +51,7 @@ impl From<Figure> for Term {
 
 impl Term {
     // x × y, exactly.
+    #[tactic(auto, using(crate::proofs::Signs::signed_product, whole::proofs::Comparisons::product_below))]
     pub(crate) fn product(format: Format, x: Figure, y: Figure) -> Term
         requires x { IsOperand format.top x }
         requires y { IsOperand format.top y }
@@ -81,6 +82,7 @@ impl Term {
     }
 
     // The term with nothing below it.
+    #[tactic(auto, using(crate::proofs::Rounds::exact_rounds))]
     pub(crate) fn exact(self, format: Format) -> Truncated
         requires { IsAddend format.top self }
         ensures is { result ≡ exact self }
