@@ -191,7 +191,8 @@ module _ (β p : ℕ) (kind : IsKind β p) (x : Exact) (t : Truncation) (s : Sta
       d : ℕ
       d = digits β n
 
-      long : 0 < n → cond (leb d p) (extended_figure β p t.term (p - d)) (shortened_figure β p t (d - p)) ≡ rounded β p x
+      long : 0 < n
+          → cond (leb d p) (extended_figure β p t.term (p - d)) (shortened_figure β p t (d - p)) ≡ rounded β p x
       long some =
           let length : Length β n d = length_of β n d two some refl in
           cond_both (leb d p) _ _ (λ (f : Figure). f ≡ rounded β p x)
