@@ -1,27 +1,29 @@
 -- Two terms brought to one power stand for their exact sum.
-use Rattle.std.proofs.Common.{◌≡◌, ℕ, ◌+◌, ◌-◌, ◌*◌, ◌/◌, ◌%◌, ◌^◌, ◌<◌, ◌≤◌, Bool, true, false, cond, eqb, ◌⊎◌, ℤ}
+use Rattle.std.proofs.Common.{◌≡◌, ℕ, ◌+◌, ◌-◌, ◌*◌, ◌/◌, ◌%◌, ◌^◌, ◌<◌, ◌≤◌, Bool, true, false, eqb, ◌⊎◌, ℤ}
 use Rattle.std.proofs.Common.{pos, ◌+ℤ◌, ◌-ℤ◌, nat_abs, ◌≤ℤ◌, sym, refl, ap, ◌∙◌, subst, ap₂, inl, inr}
 use Rattle.std.proofs.Common.{mul-le-mul_right, mod-lt, mul-le-mul_left, div-add-mod', mul-one, mul_left_comm, arith}
 use native.Mathlib.Nat.{pow-zero}
 use borrow.Author.Differences.{ints}
 use Rattle.std.specs.Int.{int_min}
 use Rattle.std.proofs.lemmas.Int.{clamps}
-use Rattle.std.proofs.lemmas.Bool.{cases_lt}
+use Rattle.std.proofs.lemmas.Bool.{cases_lt, cond_both}
 use Rattle.std.proofs.lemmas.Bool.Decides.{nat_tests}
 use Rattle.whole.proofs.Comparisons.{size_same}
 use Rattle.whole.proofs.Powers.{power_pos, power_le, power_one, power_split, power_parts}
 use Rattle.rounding.specs.Exact.{Exact, units, plus}
-use Rattle.rounding.specs.Rounding.{signed}
+use Rattle.rounding.specs.Rounding.{signed, rounded}
 use Rattle.rounding.proofs.Signs.{signed_times}
+use Rattle.rounding.proofs.Units.{plus_comm}
 use Rattle.kinds.specs.Kinds.{IsKind}
 use Rattle.kinds.proofs.Sizes.{radix_two}
 use Rattle.integers.specs.declared.terms.Term.{Term}
-use Rattle.integers.specs.declared.terms.Truncated.{Truncated}
-use Rattle.integers.specs.Terms.{worth, lifted}
+use Rattle.integers.specs.Terms.{Truncation, IsAddend, worth, lifted, exact}
+use Rattle.integers.specs.Rounding.{nearest_figure}
 use Rattle.integers.specs.Sums.{rise, aligned_at, aligned_sum}
 use Rattle.integers.proofs.Truncations.{Stands, clash}
-use Rattle.integers.proofs.Rises.{Rise, rise_of}
+use Rattle.integers.proofs.Rises.{Rise, rise_of, below_double}
 use Rattle.integers.proofs.Joins.{Joined, joined}
+use Rattle.integers.proofs.Rounds.{nearest_rounds}
 
 -- h and l added at the exponent of l
 abbrev lowered : ℕ → Term → Term → Exact
@@ -86,7 +88,7 @@ module _ (β p : ℕ) (kind : IsKind β p) (h l : Term) (le : l.exponent ≤ℤ 
   two = radix_two β p kind
 
   -- nothing is added to l
-  zero_stands : h.size ≡ 0 → Stands β p (lowered β h l) (record { term = l; sticky = false })
+  zero_stands : h.size ≡ 0 → Stands β p (lowered β h l) (exact l)
   zero_stands z = record {
     rest = 0;
     low = 0;
@@ -142,7 +144,7 @@ module _ (β p : ℕ) (kind : IsKind β p) (h l : Term) (le : l.exponent ≤ℤ 
       K_pos : 1 ≤ β ^ (nat_abs (h.exponent -ℤ l.exponent) - i)
       K_pos = power_pos β (nat_abs (h.exponent -ℤ l.exponent) - i) two
 
-      u : Truncated
+      u : Truncation
       u = aligned_at β h l (nat_abs (h.exponent -ℤ l.exponent)) i
 
       j : Joined (lifted β h i) l.negative (l.size / K) (l.size % K) u
@@ -165,10 +167,12 @@ module _ (β p : ℕ) (kind : IsKind β p) (h l : Term) (le : l.exponent ≤ℤ 
       long e (inr none) = clash (sym (j.exact (omega arith)) ∙ e)
       long e (inl some) = still_long β p h.size d i l.size u.term.size kind up short some j.near
 
-  pub aligned_stands : h.size < β ^ (2 * p) → l.size < β ^ (2 * p)
+  aligned_stands : h.size < β ^ (2 * p) → l.size < β ^ (2 * p)
       → Stands β p (plus β (worth h) (worth l)) (aligned_sum β p h l)
   aligned_stands high low =
-      subst (λ (x : Exact). Stands β p x (aligned_sum β p h l)) (lowered_plus β h l le) (by_zero (cases_lt 0 h.size))
+      subst (λ (x : Exact). Stands β p x (aligned_sum β p h l)) (lowered_plus β h l le)
+      (cond_both (eqb h.size 0) _ _ (Stands β p (lowered β h l)) (λ none. zero_stands (grind (arith, nat_tests)))
+      (λ some. risen_stands i (rise_of β p h.size d i kind (grind (arith, nat_tests)) high refl) low))
     where
       d : ℕ
       d = nat_abs (h.exponent -ℤ l.exponent)
@@ -176,17 +180,19 @@ module _ (β p : ℕ) (kind : IsKind β p) (h l : Term) (le : l.exponent ≤ℤ 
       i : ℕ
       i = rise β p h.size d
 
-      alone : Truncated
-      alone = record { term = l; sticky = false }
+-- what is aligned rounds as the sum does
+pub aligned_rounds : (β p top : ℕ) (h l : Term) → IsKind β p → top ≡ β ^ p → IsAddend top h → IsAddend top l
+    → l.exponent ≤ℤ h.exponent
+    → nearest_figure β p (aligned_sum β p h l) ≡ rounded β p (plus β (worth h) (worth l))
+aligned_rounds β p top h l kind e high low le =
+    nearest_rounds β p kind (plus β (worth h) (worth l)) (aligned_sum β p h l)
+    (aligned_stands β p kind h l le (below_double β p top h.size e high.size) (below_double β p top l.size e low.size))
 
-      both : Truncated
-      both = aligned_at β h l d i
+-- and as the sum does where it is written from the lower term
+pub aligned_rounds_turned : (β p top : ℕ) (h l : Term) → IsKind β p → top ≡ β ^ p → IsAddend top h → IsAddend top l
+    → l.exponent ≤ℤ h.exponent
+    → nearest_figure β p (aligned_sum β p h l) ≡ rounded β p (plus β (worth l) (worth h))
+aligned_rounds_turned β p top h l kind e high low le =
+    aligned_rounds β p top h l kind e high low le ∙ ap (rounded β p) (plus_comm β (worth h) (worth l))
 
-      by_zero : (0 < h.size) ⊎ (h.size ≤ 0) → Stands β p (lowered β h l) (cond (eqb h.size 0) alone both)
-      by_zero (inl some) =
-          let e : eqb h.size 0 ≡ false = grind (arith, nat_tests) in
-          subst (λ (b : Bool). Stands β p (lowered β h l) (cond b alone both)) (sym e)
-          (risen_stands i (rise_of β p h.size d i kind some high refl) low)
-      by_zero (inr none) =
-          let e : eqb h.size 0 ≡ true = grind (arith, nat_tests) in
-          subst (λ (b : Bool). Stands β p (lowered β h l) (cond b alone both)) (sym e) (zero_stands (omega arith))
+pub ruleset sums_round = (aligned_rounds, aligned_rounds_turned)

@@ -1,19 +1,19 @@
 -- What joining two sizes by their signs says of the exact sum, in any units fine enough for what lies below.
-use Rattle.std.proofs.Common.{◌≡◌, ℕ, ◌+◌, ◌-◌, ◌*◌, ◌<◌, ◌≤◌, Bool, true, false, cond, not, eqb, ltb, ◌⊎◌, ◌+ℤ◌, sym}
-use Rattle.std.proofs.Common.{refl, ap, subst, inl, inr, arith}
+use Rattle.std.proofs.Common.{◌≡◌, ℕ, ◌+◌, ◌-◌, ◌*◌, ◌<◌, ◌≤◌, Bool, true, false, not, eqb, ltb, ◌+ℤ◌, sym}
+use Rattle.std.proofs.Common.{refl, ap, subst, arith}
 use mathlib.Core.Bool.{beq}
 use borrow.Author.Differences.{ints}
-use Rattle.std.proofs.lemmas.Bool.{cases_lt}
+use Rattle.std.proofs.lemmas.Bool.{cond_both}
 use Rattle.std.proofs.lemmas.Bool.Decides.{nat_tests}
 use Rattle.rounding.specs.Rounding.{signed}
 use Rattle.integers.specs.declared.terms.Term.{Term}
-use Rattle.integers.specs.declared.terms.Truncated.{Truncated}
-use Rattle.integers.specs.Terms.{truncated}
+use Rattle.integers.specs.Terms.{Truncation, truncated}
+use Rattle.integers.specs.Rounding.{one_if}
 use Rattle.integers.specs.Sums.{joined_sum}
 use Rattle.integers.proofs.Truncations.{clash}
 
 -- in units of which K make one: K t and K above + below with their signs make K times u's size, and `low` more
-pub record Whole (K : ℕ) (t : Term) (other : Bool) (above below : ℕ) (u : Truncated) : Type 0 where
+pub record Whole (K : ℕ) (t : Term) (other : Bool) (above below : ℕ) (u : Truncation) : Type 0 where
   pub low : ℕ
   pub is : signed t.negative (K * t.size) +ℤ signed other (K * above + below)
       ≡ signed u.term.negative (K * u.term.size + low)
@@ -21,7 +21,7 @@ pub record Whole (K : ℕ) (t : Term) (other : Bool) (above below : ℕ) (u : Tr
   pub none : u.sticky ≡ false → low ≡ 0
   pub some : u.sticky ≡ true → 0 < low
 
-pub record Joined (t : Term) (other : Bool) (above below : ℕ) (u : Truncated) : Type 0 where
+pub record Joined (t : Term) (other : Bool) (above below : ℕ) (u : Truncation) : Type 0 where
   pub sum : (K : ℕ) → below < K → Whole K t other above below u
   pub exact : below ≡ 0 → u.sticky ≡ false
   pub near : t.size ≤ u.term.size + above + 1
@@ -121,7 +121,11 @@ module _ (t : Term) (other : Bool) (above below : ℕ) where
       step K n s a b = omega (arith, ap (λ (m : ℕ). K * m) a)
 
   pub joined : Joined t other above below (joined_sum t other above below)
-  joined = by_sign (beq t.negative other) refl
+  joined =
+      cond_both (beq t.negative other) _ _ (Joined t other above below) (λ e. same (alike t.negative other e))
+      (λ e. cond_both (ltb above t.size) _ _ (Joined t other above below)
+      (λ lt. less e (grind (arith, nat_tests)) (not (eqb below 0)) refl)
+      (λ ge. past e (grind (arith, nat_tests))))
     where
       alike : (a b : Bool) → beq a b ≡ true → a ≡ b
       alike false false e = refl
@@ -129,35 +133,7 @@ module _ (t : Term) (other : Bool) (above below : ℕ) where
       alike true false e = clash e
       alike false true e = clash e
 
-      summed : Truncated
-      summed = truncated other (t.size + above) t.exponent (not (eqb below 0))
-
-      turned : Truncated
-      turned = truncated other (above - t.size) t.exponent (not (eqb below 0))
-
-      left : Bool → Truncated
-      left none = truncated t.negative (t.size - above - cond none 0 1) t.exponent (not none)
-
-      by_below : beq t.negative other ≡ false → above < t.size → (0 < below) ⊎ (below ≤ 0)
-          → Joined t other above below (left (eqb below 0))
-      by_below e lt (inl some) =
-          let f : eqb below 0 ≡ false = grind (arith, nat_tests) in
-          subst (λ (b : Bool). Joined t other above below (left b)) (sym f) (borrowed e lt some)
-      by_below e lt (inr none) =
-          let f : eqb below 0 ≡ true = grind (arith, nat_tests) in
-          subst (λ (b : Bool). Joined t other above below (left b)) (sym f) (even e lt (omega arith))
-
-      by_size : beq t.negative other ≡ false → (above < t.size) ⊎ (t.size ≤ above)
-          → Joined t other above below (cond (ltb above t.size) (left (eqb below 0)) turned)
-      by_size e (inl lt) =
-          let f : ltb above t.size ≡ true = grind (arith, nat_tests) in
-          subst (λ (b : Bool). Joined t other above below (cond b (left (eqb below 0)) turned)) (sym f)
-          (by_below e lt (cases_lt 0 below))
-      by_size e (inr le) =
-          let f : ltb above t.size ≡ false = grind (arith, nat_tests) in
-          subst (λ (b : Bool). Joined t other above below (cond b (left (eqb below 0)) turned)) (sym f) (past e le)
-
-      by_sign : (b : Bool) → beq t.negative other ≡ b
-          → Joined t other above below (cond b summed (cond (ltb above t.size) (left (eqb below 0)) turned))
-      by_sign true e = same (alike t.negative other e)
-      by_sign false e = by_size e (cases_lt above t.size)
+      less : beq t.negative other ≡ false → above < t.size → (sticky : Bool) → not (eqb below 0) ≡ sticky
+          → Joined t other above below (truncated t.negative (t.size - above - one_if sticky) t.exponent sticky)
+      less e lt true f = borrowed e lt (grind (arith, nat_tests))
+      less e lt false f = even e lt (grind (arith, nat_tests))

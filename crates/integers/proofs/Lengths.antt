@@ -71,3 +71,19 @@ shortened β p n d kind l past = record {
 
     once : (B V : ℕ) → 1 ≤ B → B * V ≤ n → V ≤ n
     once B V some h = omega (arith, mul-le-mul_right V some)
+
+-- n with zeros appended up to p digits is below β^p
+pub appended_below : (β p n d : ℕ) → 2 ≤ β → 0 < n → d ≡ digits β n → d ≤ p → n * β ^ (p - d) < β ^ p
+appended_below β p n d two some e le = appended_high β n d (p - d) p two (length_of β n d two some e) (omega arith)
+
+-- where digits are dropped down to p, their unit is at most n
+pub dropped_unit : (β p n d : ℕ) → IsKind β p → 0 < n → d ≡ digits β n → p < d → β ^ (d - p) ≤ n
+dropped_unit β p n d kind some e past =
+    (shortened β p n d kind (length_of β n d (radix_two β p kind) some e) past).unit_le
+
+-- and what is left is below β^p
+pub dropped_quotient : (β p n d : ℕ) → IsKind β p → 0 < n → d ≡ digits β n → p < d → n / β ^ (d - p) < β ^ p
+dropped_quotient β p n d kind some e past =
+    (shortened β p n d kind (length_of β n d (radix_two β p kind) some e) past).hi
+
+pub ruleset brought_to_precision = (appended_below, dropped_unit, dropped_quotient)

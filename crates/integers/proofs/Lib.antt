@@ -1,7 +1,7 @@
-mod Lengths
+pub mod Signs
+pub mod Lengths
 mod Truncations
-mod Rounds
-mod Rises
+pub mod Rounds
+pub mod Rises
 mod Joins
-mod Alignments
-mod Signs
+pub mod Alignments

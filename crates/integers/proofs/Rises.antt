@@ -65,3 +65,8 @@ rise_of β p n d i kind some short e = subst (λ (k : ℕ). Rise β p n d k) (sy
       | inl h ↦ min-eq_right (omega arith)
       | inr h ↦ absurd (omega (arith, min-eq_left h))
     ]
+
+-- brought up as far as there is room, a number of 2 p digits fits a word
+pub risen_below : (β p n d top : ℕ) → IsKind β p → 0 < n → top ≡ β ^ p → n < top * top
+    → n * β ^ rise β p n d < 1152921504606846976
+risen_below β p n d top kind some e h = (rise_of β p n d _ kind some (below_double β p top n e h) refl).word

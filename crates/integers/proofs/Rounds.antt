@@ -1,10 +1,10 @@
 -- What the rounding routine computes of a truncated number is the rounded figure of what it stands for.
 use Rattle.std.proofs.Common.{◌≡◌, ℕ, zero, suc, ◌+◌, ◌-◌, ◌*◌, ◌/◌, ◌%◌, ◌^◌, ◌<◌, ◌≤◌, Bool, true, false, cond, eqb}
-use Rattle.std.proofs.Common.{leb, ◌⊎◌, ℤ, pos, ◌+ℤ◌, ◌-ℤ◌, nat_abs, ◌≤ℤ◌, sym, refl, ap, ◌∙◌, subst, ap₂, inl, inr}
+use Rattle.std.proofs.Common.{leb, ℤ, pos, ◌+ℤ◌, ◌-ℤ◌, nat_abs, ◌≤ℤ◌, sym, refl, ap, ◌∙◌, subst, ap₂}
 use Rattle.std.proofs.Common.{mul-le-mul, mul-le-mul_left, mul-one, arith}
 use native.Mathlib.Nat.{pow-zero}
 use borrow.Author.Differences.{ints}
-use Rattle.std.proofs.lemmas.Bool.{cases_lt}
+use Rattle.std.proofs.lemmas.Bool.{cond_both}
 use Rattle.std.proofs.lemmas.Bool.Decides.{nat_tests}
 use Rattle.whole.proofs.Comparisons.{size_same}
 use Rattle.whole.proofs.Powers.{power_pos, power_parts}
@@ -17,17 +17,18 @@ use Rattle.rounding.proofs.Signs.{signed_size}
 use Rattle.rounding.proofs.Computed.{rounded_zero, rounded_of}
 use Rattle.kinds.specs.Kinds.{IsKind}
 use Rattle.kinds.proofs.Sizes.{radix_two}
-use Rattle.integers.specs.declared.terms.Truncated.{Truncated}
+use Rattle.integers.specs.declared.terms.Term.{Term}
+use Rattle.integers.specs.Terms.{Truncation, exact, worth}
 use Rattle.integers.specs.Rounding.{one_if, extended_figure, shortened_figure, nearest_figure}
 use Rattle.integers.proofs.Lengths.{Length, Shortened, length_of, appended_high, appended_low, shortened}
-use Rattle.integers.proofs.Truncations.{Stands}
+use Rattle.integers.proofs.Truncations.{Stands, plain_stands}
 
 negative_signed : (neg : Bool) (n : ℕ) → 0 < n → negative (signed neg n) ≡ neg
 negative_signed neg zero some = absurd (omega arith)
 negative_signed false (suc n) some = refl
 negative_signed true (suc n) some = refl
 
-module _ (β p : ℕ) (kind : IsKind β p) (x : Exact) (t : Truncated) (s : Stands β p x t) where
+module _ (β p : ℕ) (kind : IsKind β p) (x : Exact) (t : Truncation) (s : Stands β p x t) where
   abbrev n : ℕ
   n = t.term.size
 
@@ -183,26 +184,21 @@ module _ (β p : ℕ) (kind : IsKind β p) (x : Exact) (t : Truncated) (s : Stan
       level e k r m h = omega (arith, ints)
 
   pub nearest_rounds : nearest_figure β p t ≡ rounded β p x
-  nearest_rounds = elim (cases_lt 0 t.term.size) [
-    | inr none ↦ (let e : eqb t.term.size 0 ≡ true = grind (arith, nat_tests) in
-        ap (λ (b : Bool). cond b zero_figure other) e ∙ zero_rounds (omega arith))
-    | inl some ↦ (let e : eqb t.term.size 0 ≡ false = grind (arith, nat_tests) in
-        ap (λ (b : Bool). cond b zero_figure other) e ∙ long some (cases_lt p d))
-  ]
+  nearest_rounds =
+      cond_both (eqb n 0) _ _ (λ (f : Figure). f ≡ rounded β p x) (λ none. zero_rounds (grind (arith, nat_tests)))
+      (λ some. long (grind (arith, nat_tests)))
     where
       d : ℕ
-      d = digits β t.term.size
+      d = digits β n
 
-      other : Figure
-      other = cond (leb (digits β t.term.size) p) (extended_figure β p t.term (p - digits β t.term.size))
-          (shortened_figure β p t (digits β t.term.size - p))
+      long : 0 < n
+          → cond (leb d p) (extended_figure β p t.term (p - d)) (shortened_figure β p t (d - p)) ≡ rounded β p x
+      long some =
+          let length : Length β n d = length_of β n d two some refl in
+          cond_both (leb d p) _ _ (λ (f : Figure). f ≡ rounded β p x)
+          (λ short. extended_rounds d length (grind (arith, nat_tests)) some)
+          (λ past. shortened_rounds d length (grind (arith, nat_tests)))
 
-      long : 0 < t.term.size → (p < d) ⊎ (d ≤ p) → other ≡ rounded β p x
-      long some (inl past) =
-          let e : leb d p ≡ false = grind (arith, nat_tests) in
-          ap (λ (b : Bool). cond b (extended_figure β p t.term (p - d)) (shortened_figure β p t (d - p))) e
-          ∙ shortened_rounds d (length_of β t.term.size d two some refl) past
-      long some (inr short) =
-          let e : leb d p ≡ true = grind (arith, nat_tests) in
-          ap (λ (b : Bool). cond b (extended_figure β p t.term (p - d)) (shortened_figure β p t (d - p))) e
-          ∙ extended_rounds d (length_of β t.term.size d two some refl) short some
+-- a term with nothing below it rounds as its worth does
+pub exact_rounds : (β p : ℕ) (t : Term) → IsKind β p → nearest_figure β p (exact t) ≡ rounded β p (worth t)
+exact_rounds β p t kind = nearest_rounds β p kind (worth t) (exact t) (plain_stands β p t (radix_two β p kind))

@@ -1,16 +1,11 @@
--- The worth of a product's sign, size and exponent.
-use Rattle.std.proofs.Common.{◌≡◌, ℕ, ◌*◌, Bool, ℤ, ◌+ℤ◌, ◌*ℤ◌, sym, ap, ◌∙◌, ap₂}
-use Rattle.rounding.specs.declared.Figure.{Figure}
-use Rattle.rounding.specs.Exact.{Exact, value, product}
+-- The sign of a product.
+use Rattle.std.proofs.Common.{◌≡◌, ℕ, ◌*◌, Bool, true, false, not, ◌*ℤ◌, arith}
+use mathlib.Core.Bool.{beq}
+use borrow.Author.Differences.{ints}
 use Rattle.rounding.specs.Rounding.{signed}
-use Rattle.integers.specs.declared.terms.Term.{Term}
-use Rattle.integers.specs.Terms.{worth}
 
-pub product_worth : (x y : Figure) (a b : Term) (sign : Bool) (e : ℤ) → worth a ≡ value x → worth b ≡ value y
-    → ((m n : ℕ) → signed a.negative m *ℤ signed b.negative n ≡ signed sign (m * n)) → e ≡ x.q +ℤ y.q
-    → worth (record { negative = sign; size = a.size * b.size; exponent = e }) ≡ product x y
-product_worth x y a b sign e ea eb signs ee =
-    ap₂ (λ (m e : ℤ). record { m = m; e = e })
-    (sym (signs a.size b.size)
-    ∙ ap₂ (λ (u v : ℤ). u *ℤ v) (ap (λ (z : Exact). z.m) ea) (ap (λ (z : Exact). z.m) eb))
-    ee
+pub signed_product : (a b : Bool) (m n : ℕ) → signed a m *ℤ signed b n ≡ signed (not (beq a b)) (m * n)
+signed_product false false m n = grind (arith, ints)
+signed_product false true m n = grind (arith, ints)
+signed_product true false m n = grind (arith, ints)
+signed_product true true m n = grind (arith, ints)

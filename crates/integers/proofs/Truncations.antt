@@ -7,11 +7,10 @@ use Rattle.whole.proofs.Powers.{power_pos}
 use Rattle.rounding.specs.Exact.{Exact}
 use Rattle.rounding.specs.Rounding.{signed}
 use Rattle.integers.specs.declared.terms.Term.{Term}
-use Rattle.integers.specs.declared.terms.Truncated.{Truncated}
-use Rattle.integers.specs.Terms.{worth}
+use Rattle.integers.specs.Terms.{Truncation, worth, exact}
 
 -- x is t's term and `low` more, in units of β^-rest of t's; where there is more, the size has more than p digits
-pub record Stands (β p : ℕ) (x : Exact) (t : Truncated) : Type 0 where
+pub record Stands (β p : ℕ) (x : Exact) (t : Truncation) : Type 0 where
   pub rest : ℕ
   pub low : ℕ
   pub is : x.m ≡ signed t.term.negative (β ^ rest * t.term.size + low)
@@ -25,7 +24,7 @@ pub clash : {A : Type 0} → false ≡ true → A
 clash e = absurd (subst T (sym e) tt)
 
 -- a term that nothing lies below stands for its own worth
-pub plain_stands : (β p : ℕ) (t : Term) → 2 ≤ β → Stands β p (worth t) (record { term = t; sticky = false })
+pub plain_stands : (β p : ℕ) (t : Term) → 2 ≤ β → Stands β p (worth t) (exact t)
 plain_stands β p t two = record {
   rest = 0;
   low = 0;

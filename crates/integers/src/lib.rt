@@ -1,14 +1,13 @@
 // The arithmetic of a kind in whole numbers of 64 bits: one text for every kind.
 #![tactic(auto)]
 
-ghost use Rattle.std.specs.Prelude.{◌≡◌};
-ghost use Rattle.rounding.specs.Refusals.{coded, unless};
-ghost use Rattle.rounding.specs.Operations.{outside};
+ghost use Rattle.std.specs.Prelude.{◌≡◌, IfErr, None, OnOk, Some};
+ghost use Rattle.rounding.specs.Refusals.{coded, number, unless};
+ghost use Rattle.rounding.specs.Operations.{no_figure, outside};
+ghost use Rattle.integers.specs.Terms.{IsOperand};
 ghost use Rattle.std.proofs.Common.{rules};
 
-use crate::nearest::{exact_term, nearest};
-use crate::sum::exact_sum;
-use crate::terms::{product_of, term_of};
+use crate::terms::Term;
 use figures::arithmetic::{Arithmetic, BinaryArithmetic};
 use figures::is_figure;
 use kinds::format::Format;
@@ -52,33 +51,42 @@ fn within_range(f: Figure) -> Result<Figure, Refusal>
     }
 }
 
+// Refuses what is no figure of the kind.
+fn check_operand(format: Format, f: Figure) -> Result<(), Refusal>
+    ensures ok { OnOk result (no_figure format.radix format.precision f ≡ None) }
+    ensures small { OnOk result (IsOperand format.top f) }
+    ensures err { IfErr result (λ e. no_figure format.radix format.precision f ≡ Some (number e)) }
+{
+    if is_figure(format, f) {
+        Ok(())
+    } else {
+        Err(Refusal::NoFigure)
+    }
+}
+
 // Operands are tested from the left, the exact result is rounded once, and then its exponent is tested.
 impl<K: Kind> Arithmetic for Integers<K> {
     fn multiply(x: Figure, y: Figure) -> Result<Figure, Refusal> {
         let format = Format::of::<K>();
-        if !is_figure(format, x) || !is_figure(format, y) {
-            return Err(Refusal::NoFigure);
-        }
-        within_range(nearest(format, exact_term(format, product_of(format, x, y))))
+        check_operand(format, x)?;
+        check_operand(format, y)?;
+        within_range(Term::product(format, x, y).exact(format).nearest(format))
     }
 
     fn add(x: Figure, y: Figure) -> Result<Figure, Refusal> {
         let format = Format::of::<K>();
-        if !is_figure(format, x) || !is_figure(format, y) {
-            return Err(Refusal::NoFigure);
-        }
-        within_range(nearest(format, exact_sum(format, term_of(x), term_of(y))))
+        check_operand(format, x)?;
+        check_operand(format, y)?;
+        within_range(Term::from(x).plus(format, Term::from(y)).nearest(format))
     }
 
     fn fused(x: Figure, y: Figure, z: Figure) -> Result<Figure, Refusal> {
         let format = Format::of::<K>();
-        if !is_figure(format, x) || !is_figure(format, y) || !is_figure(format, z) {
-            return Err(Refusal::NoFigure);
-        }
-        within_range(nearest(
-            format,
-            exact_sum(format, product_of(format, x, y), term_of(z)),
-        ))
+        check_operand(format, x)?;
+        check_operand(format, y)?;
+        check_operand(format, z)?;
+        let product = Term::product(format, x, y);
+        within_range(product.plus(format, Term::from(z)).nearest(format))
     }
 }
 

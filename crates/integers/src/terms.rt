@@ -1,12 +1,13 @@
 // A number as the machine holds it: a sign, a size and an exponent.
-ghost use Rattle.std.specs.Prelude.{◌≡◌, ℕ, ◌*◌, ◌^◌, ◌<◌, ◌≤◌, ◌*ℤ◌, unsigned_abs};
-ghost use Rattle.rounding.specs.Exact.{value, product};
-ghost use Rattle.rounding.specs.Rounding.{signed};
-ghost use Rattle.integers.specs.Terms.{worth, lifted};
+ghost use Rattle.std.specs.Prelude.{◌≡◌, ◌*◌, ◌^◌, ◌<◌, ◌≤◌, unsigned_abs};
+ghost use Rattle.rounding.specs.Exact.{product};
+ghost use Rattle.integers.specs.Terms.{exact, IsAddend, IsOperand, IsTermOf, lifted, worth};
+ghost use Rattle.integers.specs.Rounding.{RoundsAs};
 
 use kinds::format::Format;
 use kinds::powers::scaled;
 use rounding::Figure;
+use std::marker::Model;
 
 // ± size × β^exponent.
 #[derive(Clone, Copy)]
@@ -23,48 +24,73 @@ pub(crate) struct Truncated {
     pub(crate) sticky: bool,
 }
 
-pub(crate) fn term_of(f: Figure) -> Term
-    ensures is { worth result ≡ value f }
-    ensures parts { (result.size ≡ unsigned_abs f.s) × (result.exponent ≡ f.q) }
-{
-    Term {
-        negative: f.s < 0,
-        size: f.s.unsigned_abs() as u64,
-        exponent: f.q,
+// The bounds hold of each value, so that no clause repeats them.
+impl Model for Truncated {
+    ghost use Rattle.integers.specs.Terms.{FitsWord, Truncation};
+
+    ghost Value = { Truncation };
+
+    ghost view = { λ t. record { term = t.term; sticky = t.sticky } };
+
+    ghost invariant = { λ t. FitsWord t.term };
+
+    ghost inverse = { λ t. record { term = t.term; sticky = t.sticky } };
+}
+
+impl From<Figure> for Term {
+    ghost from_gives = { IsTermOf };
+
+    fn from(f: Figure) -> Term {
+        Term {
+            negative: f.s < 0,
+            size: f.s.unsigned_abs() as u64,
+            exponent: f.q,
+        }
     }
 }
 
-// The sign of a product.
-fn opposed(a: bool, b: bool) -> bool
-    ensures { (m n : ℕ) → signed a m *ℤ signed b n ≡ signed result (m * n) }
-{
-    a != b
-}
-
-// x × y, exactly.
-pub(crate) fn product_of(format: Format, x: Figure, y: Figure) -> Term
-    requires sizes { (unsigned_abs x.s < format.top) × (unsigned_abs y.s < format.top) }
-    requires exponents { (unsigned_abs x.q ≤ 2000) × (unsigned_abs y.q ≤ 2000) }
-    ensures is { worth result ≡ product x y }
-    ensures small { (result.size < format.top * format.top) × (unsigned_abs result.exponent ≤ 4000) }
-{
-    let a = term_of(x);
-    let b = term_of(y);
-    Term {
-        negative: opposed(a.negative, b.negative),
-        size: a.size * b.size,
-        exponent: a.exponent + b.exponent,
+impl Term {
+    // x × y, exactly.
+    #[tactic(auto, using(crate::proofs::Signs::signed_product, whole::proofs::Comparisons::product_below))]
+    pub(crate) fn product(format: Format, x: Figure, y: Figure) -> Term
+        requires x { IsOperand format.top x }
+        requires y { IsOperand format.top y }
+        ensures is { worth result ≡ product x y }
+        ensures small { IsAddend format.top result }
+    {
+        let a = Term::from(x);
+        let b = Term::from(y);
+        Term {
+            negative: a.negative != b.negative,
+            size: a.size * b.size,
+            exponent: a.exponent + b.exponent,
+        }
     }
-}
 
-// t with zeros appended: the same number.
-pub(crate) fn lifted(radix: u64, t: Term, by: u32) -> Term
-    requires { (t.size * radix ^ by < 2 ^ 64) × ((unsigned_abs t.exponent ≤ 5000) × (by ≤ 64)) }
-    ensures { result ≡ lifted radix t by }
-{
-    Term {
-        negative: t.negative,
-        size: scaled(radix, t.size, by),
-        exponent: t.exponent - by as i32,
+    // The same number, with zeros appended.
+    pub(crate) fn lifted(self, radix: u64, by: u32) -> Term
+        requires size { self.size * radix ^ by < 2 ^ 64 }
+        requires exponent { unsigned_abs self.exponent ≤ 5000 }
+        requires few { by ≤ 64 }
+        ensures { result ≡ lifted radix self by }
+    {
+        Term {
+            negative: self.negative,
+            size: scaled(radix, self.size, by),
+            exponent: self.exponent - by as i32,
+        }
+    }
+
+    // The term with nothing below it.
+    #[tactic(auto, using(crate::proofs::Rounds::exact_rounds))]
+    pub(crate) fn exact(self, format: Format) -> Truncated
+        requires { IsAddend format.top self }
+        ensures is { result ≡ exact self }
+        ensures rounds { RoundsAs format.radix format.precision (worth self) result }
+    {
+        Truncated {
+            term: self,
+            sticky: false,
+        }
     }
 }
