@@ -194,13 +194,6 @@ impl<M: Method> Console<M> {
         Ok(0)
     }
 
-    // What is proved of a reading.
-    fn reading_law(&self, lane: u8)
-        ensures { ReadingLaw M.Arith.RADIX M.Arith.PRECISION
-            (M.Method.num self.now.method) (M.Method.den self.now.method)
-            self.now.lanes lane }
-    {}
-
     // What a lane shows. No lane changes.
     pub fn read(&self, lane: u8) -> Result<Reading, Refusal>
         ensures answer { coded result ≡ unless (no_lane lane)
@@ -213,7 +206,6 @@ impl<M: Method> Console<M> {
             (M.Method.num self.now.method) (M.Method.den self.now.method)
             self.now.lanes lane (coded result) }
     {
-        self.reading_law(lane);
         let read = self.lane(lane)?;
         Ok(Reading {
             count: read.count,

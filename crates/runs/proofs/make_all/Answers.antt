@@ -5,9 +5,6 @@ use Rattle.runs.specs.Answers.{answer_to, lanes_after}
 use Rattle.runs.proofs.Entries.{blank, made_more, made_all, run_tracked}
 use Rattle.runs.proofs.make_all.Goals as goal
 
-pub loop-entry-init : goal.loop-entry-init
-loop-entry-init g c = (record { calls = refl; answers = refl; lanes = refl }, refl)
-
 pub loop-entry-preserved : goal.loop-entry-preserved
 loop-entry-preserved g c =
     let same = c.loop-entry.auto.entries in

@@ -5,24 +5,6 @@ use Rattle.kinds.proofs.Words.{counting_more, counting_end}
 use Rattle.kinds.proofs.format.Format.counted.Goals as goal
 use Rattle.kinds.proofs.format.Format.counted.Goals.{then-self-n, else-self-n}
 
-pub loop-power-init : goal.loop-power-init
-loop-power-init c = elim c.if-self-n.branch [
-  | then-self-n w ↦ rw (w.power-is, w.count-is)
-      (counting_top c.args.self.radix c.args.n c.args.self.precision c.args.self.top
-      (omega (arith, c.args.self.kind.1)) (omega arith) c.args.self.top_is w.if-self-n.true)
-  | else-self-n w ↦ rw (w.power-is, w.count-is) (counting_start c.args.self.radix c.args.n)
-]
-
-pub overflow_mul-power : goal.overflow_mul-power
-overflow_mul-power c = record {
-  fits =
-      omega (
-        arith,
-        counting_room c.args.self.radix c.args.n c.loop-power.power
-            c.args.self.radix_two c.loop-power-test.true,
-      );
-}
-
 pub loop-power-smaller : goal.loop-power-smaller
 loop-power-smaller c =
     let grows : c.loop-power.power < c.loop-power.power * c.args.self.radix =

@@ -22,8 +22,3 @@ returns-then-k-ge64 c =
     let base : 2 ^ c.args.k ≤ c.args.self.radix ^ c.args.k = pow-le-pow_left two c.args.k in
     let past : 2 ^ 64 ≤ 2 ^ c.args.k = power_le 2 64 c.args.k (omega arith) c.if-k-ge64.true in
     split_below c.args.n (c.args.self.radix ^ c.args.k) (omega arith)
-
-pub returns-in-None : goal.returns-in-None
-returns-in-None c =
-    let past : 2 ^ 64 ≤ c.args.self.radix ^ c.args.k = not_below _ _ c.in-None.ensures in
-    split_below c.args.n (c.args.self.radix ^ c.args.k) (omega arith)
