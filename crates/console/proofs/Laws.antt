@@ -1,5 +1,5 @@
 -- What is proved of the calls of a console: their outcomes are decided by their faults, and they keep track.
-use Rattle.std.proofs.Common.{◌≡◌, ℕ, ◌+◌, List, Some, None, Ok, Err, Result, sym, refl, ap, ◌∙◌, subst}
+use Rattle.std.proofs.Common.{◌≡◌, ℕ, ◌+◌, List, Some, None, Ok, Err, Result, refl, ap, ◌∙◌}
 use Rattle.rounding.specs.declared.Figure.{Figure}
 use Rattle.rounding.specs.Refusals.{unless}
 use Rattle.kinds.specs.Kinds.{IsKind}
@@ -7,15 +7,9 @@ use Rattle.bounds.specs.Methods.{Function, IsReliable}
 use Rattle.lanes.specs.declared.Lane.{Lane}
 use Rattle.lanes.specs.Lanes.{at, put, fresh_lane}
 use Rattle.lanes.specs.Turning.{no_lane, turned_by, turn_fault, after_turn, after_restart}
-use Rattle.histories.specs.declared.Call.TheVariants.{Read}
-use Rattle.histories.specs.Histories.{course}
-use Rattle.histories.specs.Tracking.{Tracks}
-use Rattle.histories.proofs.Faults.{lane_there}
 use Rattle.histories.proofs.Tracking.{still, restart_keeps_track, turn_keeps_track}
-use Rattle.console.specs.declared.Reading.{Reading}
-use Rattle.console.specs.Readings.{reading_of, shown_lane}
 use Rattle.console.specs.Steps.{turn_steps}
-use Rattle.console.specs.Laws.{FourLaw, TurnLaw, RestartLaw, ReadingLaw}
+use Rattle.console.specs.Laws.{FourLaw, TurnLaw, RestartLaw}
 use Rattle.console.proofs.Outcomes.{refused, answered, refused_alike, refused_keeps, answered_alike, answered_sets}
 use Rattle.console.proofs.Steps.{turn_steps_lem}
 
@@ -38,17 +32,6 @@ module _ (β p : ℕ) (kind : IsKind β p) (N D : ℕ) (ls : List Lane) where
       left = λ n e. refused_keeps (no_lane i) ls (put ls i (fresh_lane β p)) n (refused (no_lane i) (at ls i) n e);
       placed = λ l e. answered_sets (no_lane i) ls (put ls i (fresh_lane β p)) (there l e);
       track = restart_keeps_track β p kind N D 0 ls i;
-    }
-
-    pub reading_law : ReadingLaw β p N D ls i
-    reading_law = record {
-      track = still β p kind N D (Read i) _ ls (λ j s. refl);
-      report = record {
-        reports = λ h track r e.
-            let is = answered (no_lane i) (reading_of (at ls i)) r (sym e) in
-            subst (λ (v : Reading). Tracks β p N D (course β i h) (shown_lane v)) (sym is.1)
-            (track.each i (lane_there i is.0));
-      };
     }
 
     module _ (m : Function) (law : IsReliable β p N D m) (c d : Figure) where

@@ -8,9 +8,8 @@ use Rattle.bounds.specs.Methods.{Function}
 use Rattle.lanes.specs.declared.Lane.{Lane}
 use Rattle.lanes.specs.Lanes.{at, put, fresh_lane}
 use Rattle.lanes.specs.Turning.{no_lane, turn_fault, after_turn, after_restart}
-use Rattle.histories.specs.declared.Call.TheVariants.{Sum, Determinant, Product, Turn, Restart, Read}
+use Rattle.histories.specs.declared.Call.TheVariants.{Sum, Determinant, Product, Turn, Restart}
 use Rattle.histories.specs.Tracking.{event, KeepsTrack}
-use Rattle.console.specs.Readings.{reading_of, ReportsTrack}
 use Rattle.console.specs.Steps.{turn_steps}
 
 -- the calls of the four operands a, b, c, d
@@ -39,8 +38,3 @@ pub record RestartLaw (β p N D : ℕ) (ls : List Lane) (i : ℕ) : Type 0 where
   pub left : (n : ℕ) → Err n ≡ unless (no_lane i) (at ls i) → ls ≡ after_restart β p ls i
   pub placed : (l : Lane) → Ok l ≡ unless (no_lane i) (at ls i) → put ls i (fresh_lane β p) ≡ after_restart β p ls i
   pub track : KeepsTrack β p N D (event {X = ℕ} (Restart i) (unless (no_lane i) 0)) ls (after_restart β p ls i)
-
--- a reading of the lane i
-pub record ReadingLaw (β p N D : ℕ) (ls : List Lane) (i : ℕ) : Type 0 where
-  pub track : KeepsTrack β p N D (event (Read i) (unless (no_lane i) (reading_of (at ls i)))) ls ls
-  pub report : ReportsTrack β p N D ls i (unless (no_lane i) (reading_of (at ls i)))

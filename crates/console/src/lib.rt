@@ -11,7 +11,7 @@ ghost use Rattle.histories.specs.declared.Call.TheVariants.{Sum, Determinant, Pr
 ghost use Rattle.histories.specs.Tracking.{TrackHistory, event, KeepsTrack};
 ghost use Rattle.console.specs.Readings.{reading_of, ReportsTrack};
 ghost use Rattle.console.specs.Steps.{turn_steps};
-ghost use Rattle.console.specs.Laws.{FourLaw, TurnLaw, RestartLaw, ReadingLaw};
+ghost use Rattle.console.specs.Laws.{FourLaw, TurnLaw, RestartLaw};
 
 use kinds::format::Format;
 use lanes::{Lane, Lanes, fresh_lane};

@@ -5,13 +5,10 @@ use Rattle.std.proofs.Common.{get_or-set_other, get_or-set_same}
 use lib.ListN.{get_or-replicate}
 use Rattle.std.proofs.lemmas.Bool.Decides.{eqb_tells, nat_tests}
 use Rattle.rounding.specs.declared.Figure.{Figure}
-use Rattle.rounding.specs.Exact.{value}
-use Rattle.rounding.specs.Errors.{Within}
-use Rattle.rounding.specs.Operations.{is_figure}
 use Rattle.rounding.specs.Refusals.{first, unless, kept}
 use Rattle.kinds.specs.Kinds.{IsKind}
 use Rattle.kinds.proofs.Sizes.{radix_two}
-use Rattle.bounds.specs.Fours.{fault, Accepted, exact_sum}
+use Rattle.bounds.specs.Fours.{fault}
 use Rattle.bounds.proofs.Operands.{none_first}
 use Rattle.bounds.proofs.Orders.{real_accepted, imaginary_accepted}
 use Rattle.bounds.specs.Methods.{Function, IsReliable}

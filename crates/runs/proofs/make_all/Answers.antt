@@ -1,5 +1,5 @@
 -- Each turn makes one call more, and after the last all are made.
-use Rattle.std.proofs.Common.{◌≡◌, ◌<◌, ◌≤◌, length, get_or, refl, ◌∙◌, subst, arith}
+use Rattle.std.proofs.Common.{◌≡◌, ◌<◌, ◌≤◌, length, get_or, ◌∙◌, subst, arith}
 use Rattle.rounding.specs.Refusals.{coded}
 use Rattle.runs.specs.Answers.{answer_to, lanes_after}
 use Rattle.runs.proofs.Entries.{blank, made_more, made_all, run_tracked}

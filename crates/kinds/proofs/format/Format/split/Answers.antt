@@ -2,7 +2,7 @@
 use Rattle.std.proofs.Common.{ℕ, ◌^◌, ◌<◌, ◌≤◌, sym, subst, arith}
 use native.Mathlib.Nat.{pow-le-pow_left}
 use Rattle.whole.proofs.Powers.{power_pos, power_le}
-use Rattle.kinds.proofs.Words.{split_below, not_below}
+use Rattle.kinds.proofs.Words.{split_below}
 use Rattle.kinds.proofs.format.Format.split.Goals as goal
 
 some-unit : (c : goal.In-Some) → 0 < c.in-Some.unit
