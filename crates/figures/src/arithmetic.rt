@@ -22,7 +22,8 @@ pub trait Arithmetic: Kind {
 // An arithmetic at radix 2. The function hands the fact to code, the law to proofs.
 pub trait BinaryArithmetic: Arithmetic {
     fn radix_two() -> u32
-        ensures { (result ≡ 2) × (Self.RADIX ≡ 2) };
+        ensures two { result ≡ 2 }
+        ensures radix { Self.RADIX ≡ 2 };
 
     ghost radix: { Self.RADIX ≡ 2 };
 }

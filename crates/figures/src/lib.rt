@@ -1,7 +1,7 @@
 // Figures of a kind: which they are, one, the opposite, and the arithmetic that works on them (`arithmetic`).
 #![tactic(auto)]
 
-ghost use Rattle.std.specs.Prelude.{◌≡◌, true, ◌≤◌, ◌<◌, nat_abs};
+ghost use Rattle.std.specs.Prelude.{◌≡◌, true, ◌≤◌, ◌<◌, unsigned_abs};
 ghost use Rattle.rounding.specs.Operations.{is_figure};
 ghost use Rattle.figures.specs.Figures.{one_figure, flipped};
 
@@ -14,13 +14,14 @@ pub mod arithmetic;
 // Whether f is zero, with s = 0 and q = 0, or has all digits of the kind and an exponent in -2000..2000.
 pub fn is_figure(format: Format, f: Figure) -> bool
     ensures is { result ≡ is_figure format.radix format.precision f }
-    ensures small { (result ≡ true → nat_abs f.s < format.top) × (result ≡ true → nat_abs f.q ≤ 2000) }
+    ensures size { result ≡ true → unsigned_abs f.s < format.top }
+    ensures exponent { result ≡ true → unsigned_abs f.q ≤ 2000 }
 {
     let size = f.s.unsigned_abs() as u64;
     if size == 0 {
         f.q.unsigned_abs() == 0
     } else {
-        format.least <= size && size < format.top && f.q.unsigned_abs() <= 2000
+        format.least <= size && size < format.top && f.reaches(2000)
     }
 }
 

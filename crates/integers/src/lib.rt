@@ -44,7 +44,7 @@ impl<K: Kind> Kind for Integers<K> {
 fn within_range(f: Figure) -> Result<Figure, Refusal>
     ensures { coded result ≡ unless (outside f) f }
 {
-    if f.q.unsigned_abs() <= 2000 {
+    if f.reaches(2000) {
         Ok(f)
     } else {
         Err(Refusal::ResultRange)

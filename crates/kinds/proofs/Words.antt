@@ -1,5 +1,5 @@
 -- How powers that outgrow a word divide what a word holds, and what the loop that counts digits keeps.
-use Rattle.std.proofs.Common.{◌≡◌, ℕ, ◌+◌, ◌-◌, ◌*◌, ◌/◌, ◌%◌, ◌^◌, ◌<◌, ◌≤◌, ◌⊎◌, sym, refl, ap, ◌∙◌, subst, inl}
+use Rattle.std.proofs.Common.{◌≡◌, ℕ, ◌+◌, ◌-◌, ◌*◌, ◌/◌, ◌%◌, ◌^◌, ◌<◌, ◌≤◌, ◌⊎◌, sym, ap, ◌∙◌, subst, inl}
 use Rattle.std.proofs.Common.{inr, mod-eq_of_lt, mul_comm, div-lt_iff_lt-mul, mul-le-mul_left, pow-suc, div-add-mod'}
 use Rattle.std.proofs.Common.{le-div_iff_mul-le, add-one, arith}
 use native.Mathlib.Nat.{pow-zero, div-eq_of_lt, mul-mod_left, add-mul-mod_self_right}
@@ -11,9 +11,6 @@ use Rattle.whole.proofs.Powers.{power_pos, power_below, power_split, power_parts
 -- a number below the unit has no digits above it
 pub split_below : (n u : ℕ) → n < u → (0 ≡ n / u) × (n ≡ n % u)
 split_below n u h = (sym (div-eq_of_lt h), sym (mod-eq_of_lt h))
-
-pub not_below : (u v : ℕ) → (u < v → ⊥) → v ≤ u
-not_below u v h = elim (cases_lt u v) [ inl l ↦ absurd (h l) | inr l ↦ l ]
 
 -- what fits a word is whole in it
 pub in_word : (u r : ℕ) → r ≡ (1 * u) % 2 ^ 64 → u ≤ 16777216 → r ≡ u
@@ -44,21 +41,6 @@ pub record Counting (β n power count : ℕ) : Type 0 where
   pub few : count ≤ 64
   pub is : power ≡ β ^ (count - 1)
   pub low : (count ≡ 1) ⊎ (power ≤ n)
-
-pub counting_start : (β n : ℕ) → Counting β n 1 1
-counting_start β n = record { some = omega arith; few = omega arith; is = sym (pow-zero β); low = inl refl }
-
--- from p digits on, where n has more
-pub counting_top : (β n p top : ℕ) → 1 ≤ p → p < 64 → top ≡ β ^ p → top ≤ n → Counting β n top (p + 1)
-counting_top β n p top some few is le = record {
-  some = omega arith;
-  few = omega arith;
-  is = is ∙ ap (λ (m : ℕ). β ^ m) (back p);
-  low = inr le;
-}
-  where
-    back : (k : ℕ) → k ≡ k + 1 - 1
-    back k = omega arith
 
 -- the next power does not pass n
 pub counting_room : (β n power : ℕ) → 2 ≤ β → power ≤ n / β → power * β ≤ n

@@ -3,7 +3,7 @@ ghost use Rattle.std.specs.Prelude.{◌≡◌, ◌-◌, ◌*◌, ◌^◌, ◌<�
 ghost use Rattle.kinds.specs.Kinds.{IsKind};
 
 // The radix β, the precision p, the least significand β^(p-1) and the first number past the largest, β^p.
-// The last four facts follow from those before; casts and sums in words rest on them.
+// The last five facts follow from those before; casts and sums in words rest on them.
 #[derive(Clone, Copy)]
 pub struct Format {
     pub radix: u64,
@@ -16,5 +16,6 @@ pub struct Format {
     ghost radix_two: { 2 ≤ radix },
     ghost few_digits: { precision ≤ 24 },
     ghost least_below: { least < top },
-    ghost products_small: { (top ≤ top * top) × (top * top ≤ 281474976710656) },
+    ghost product_above: { top ≤ top * top },
+    ghost product_small: { top * top ≤ 281474976710656 },
 }

@@ -51,7 +51,8 @@ impl Format {
     // n split at radix^k: the number of its digits above, and that of the digits below. From 2^64 on a power is past
     // every word, so none is formed that far.
     pub fn split(self, n: u64, k: u32) -> (u64, u64)
-        ensures { (result.0 ≡ n / self.radix ^ k) × (result.1 ≡ n % self.radix ^ k) }
+        ensures above { result.0 ≡ n / self.radix ^ k }
+        ensures below { result.1 ≡ n % self.radix ^ k }
     {
         if k >= 64 {
             return (0, n);

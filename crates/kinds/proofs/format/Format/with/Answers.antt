@@ -15,5 +15,6 @@ invariant_of-result c =
       radix_two = radix_two c.args.radix c.args.precision c.requires;
       few_digits = few_digits c.args.radix c.args.precision c.requires;
       least_below = rw (least, top) (least_below c.args.radix c.args.precision c.requires);
-      products_small = rw top (products_small c.args.radix c.args.precision c.requires);
+      product_above = rw top (products_small c.args.radix c.args.precision c.requires).0;
+      product_small = rw top (products_small c.args.radix c.args.precision c.requires).1;
     }
