@@ -2,6 +2,8 @@
 // are no figures. Each test is a function over an arithmetic, so that both kinds are put to the same questions: there
 // `least` and `top` are β^(p-1) and β^p, `half` is half of `top`, and half × β^(q-p) is half a last place of a figure
 // at the exponent q.
+ghost use Rattle.std.specs.Prelude.{◌≡◌, OnOk};
+
 use crate::rows::{answers, figure, refuses};
 use figures::arithmetic::Arithmetic;
 use integers::Integers;
@@ -9,6 +11,31 @@ use kinds::format::Format;
 use kinds::{Binary, Decimal};
 use rounding::Refusal::{NoFigure, ResultRange};
 use std::test::Fail;
+
+// Passes only where the kind has these numbers, which the questions below are asked with.
+fn numbers<A: Arithmetic>(radix: u64, precision: u32, least: u64, top: u64) -> Result<(), Fail>
+    ensures radix { OnOk result (radix ≡ A.RADIX) }
+    ensures precision { OnOk result (precision ≡ A.PRECISION) }
+{
+    let format = Format::of::<A>();
+    if format.radix != radix || format.precision != precision {
+        return Err(Fail::new("another radix or precision"));
+    }
+    if format.least != least || format.top != top {
+        return Err(Fail::new("another range of significands"));
+    }
+    Ok(())
+}
+
+#[test]
+fn binary_numbers() -> Result<(), Fail> {
+    numbers::<Integers<Binary>>(2, 24, 8388608, 16777216)
+}
+
+#[test]
+fn decimal_numbers() -> Result<(), Fail> {
+    numbers::<Integers<Decimal>>(10, 7, 1000000, 10000000)
+}
 
 // A power of the radix, and the odd figure next to it, at the exponent 2000, with half × β^(2000-d) added or taken
 // away: for every d, up to the last at which the smaller one is still a product of two figures. Each sum is formed by
