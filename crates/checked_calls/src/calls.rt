@@ -36,18 +36,20 @@ impl fmt::Display for Arrangement {
     }
 }
 
-const BINARY: Kahan<Integers<kinds::Binary>> = Kahan {
+// The methods of the arrangements.
+pub const BINARY: Kahan<Integers<kinds::Binary>> = Kahan {
     arithmetic: PhantomData,
 };
 
-const DECIMAL: Kahan<Integers<kinds::Decimal>> = Kahan {
+pub const DECIMAL: Kahan<Integers<kinds::Decimal>> = Kahan {
     arithmetic: PhantomData,
 };
 
-const SYMMETRIC: Symmetric<Integers<kinds::Binary>> = Symmetric {
+pub const SYMMETRIC: Symmetric<Integers<kinds::Binary>> = Symmetric {
     arithmetic: PhantomData,
 };
 
+// A call as a value, which can be shown beside its answer.
 #[derive(Clone, Copy)]
 pub enum Call {
     Multiply(Figure, Figure),
@@ -80,7 +82,7 @@ fn perform<M: Method>(method: &M, call: Call) -> Result<Figure, Refusal>
     }
 }
 
-// Makes a call by an arrangement.
+// Makes a call by an arrangement. Each arm runs generic code over another type, which no closure or `dyn` can name.
 pub fn answer_of(by: Arrangement, call: Call) -> Result<Figure, Refusal>
     ensures { coded result ≡ answer_of by call }
 {
@@ -106,7 +108,7 @@ fn product_by<M: Method>(
     complex_product(method, a, b, c, d)
 }
 
-// (a + bi)(c + di) by an arrangement: the real and the imaginary part.
+// (a + bi)(c + di) by an arrangement: the real and the imaginary part. Its arms are as those of `answer_of`.
 pub fn product_of(
     by: Arrangement,
     a: Figure,

@@ -8,7 +8,7 @@ ghost use Rattle.checked_calls.specs.Calls.{answer_of};
 ghost use Rattle.checked_calls.specs.Examples.{example, examples, ExamplesHold, Shows, Show};
 
 use calls::{Answered, Arrangement, Call, answer_of};
-use rounding::Figure;
+use rounding::figure;
 
 pub mod calls;
 
@@ -31,12 +31,6 @@ fn made(by: Arrangement, call: Call) -> Answered
         call,
         answer: answer_of(by, call),
     }
-}
-
-macro_rules! figure {
-    ($s:expr, $q:expr) => {
-        Figure { s: $s, q: $q }
-    };
 }
 
 // The calls of the examples, made.

@@ -1,5 +1,6 @@
 // Operations of the binary kind with their answers, written by vectors/make: do not edit by hand.
-use crate::rows::{Pair, Triple, figure};
+use crate::rows::{Pair, Triple};
+use rounding::figure;
 
 pub const PRODUCTS: [Pair; 22] = [
     // random operands

@@ -1,5 +1,6 @@
 // Answers of the symmetric method over the binary kind, written by vectors/make_methods: do not edit by hand.
-use crate::rows::{Four, figure};
+use crate::rows::Four;
+use rounding::figure;
 
 pub const FOURS: [Four; 69] = [
     // random operands, products of like size

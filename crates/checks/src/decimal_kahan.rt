@@ -1,5 +1,6 @@
 // Answers of Kahan's method over the decimal kind, written by vectors/make_methods: do not edit by hand.
-use crate::rows::{Four, figure};
+use crate::rows::Four;
+use rounding::figure;
 
 pub const FOURS: [Four; 63] = [
     // random operands, products of like size

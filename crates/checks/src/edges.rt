@@ -4,12 +4,13 @@
 // at the exponent q.
 ghost use Rattle.std.specs.Prelude.{◌≡◌, OnOk};
 
-use crate::rows::{answers, figure, refuses};
+use crate::rows::{answers, refuses};
 use figures::arithmetic::Arithmetic;
 use integers::Integers;
 use kinds::format::Format;
 use kinds::{Binary, Decimal};
 use rounding::Refusal::{NoFigure, ResultRange};
+use rounding::figure;
 use std::test::Fail;
 
 // Passes only where the kind has these numbers, which the questions below are asked with.

@@ -5,7 +5,7 @@ ghost use Rattle.rounding.specs.Refusals.{number, unless};
 ghost use Rattle.figures.specs.Figures.{opposite};
 ghost use Rattle.bounds.specs.Fours.{faults};
 
-use crate::rows::{Four, answers, figure, refuses};
+use crate::rows::{Four, answers, refuses};
 use crate::{binary_kahan, binary_symmetric, decimal_kahan};
 use integers::Integers;
 use kinds::format::Format;
@@ -14,7 +14,7 @@ use methods::kahan::Kahan;
 use methods::method::Method;
 use products::{complex_product, determinant, sum};
 use rounding::Refusal::{OperandNoFigure, OperandRange};
-use rounding::{Figure, Refusal};
+use rounding::{Figure, Refusal, figure};
 use std::marker::PhantomData;
 use std::test::Fail;
 use symmetric_method::Symmetric;

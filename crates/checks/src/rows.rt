@@ -4,15 +4,6 @@ ghost use Rattle.std.specs.Prelude.{◌≡◌, Ok, Err, OnOk};
 use rounding::{Figure, Refusal};
 use std::test::Fail;
 
-// The figure of a significand and an exponent. It stands in tables too, where a constant's value calls no function.
-macro_rules! figure {
-    ($s:expr, $q:expr) => {
-        rounding::Figure { s: $s, q: $q }
-    };
-}
-
-pub(crate) use figure;
-
 // An operation on two figures with its answer.
 pub struct Pair {
     pub x: Figure,

@@ -1,8 +1,9 @@
 // A run of a binary console by Kahan's method, written by vectors/make_runs: do not edit by hand.
-use crate::rows::{Row, figure};
+use crate::rows::Row;
 use console::Reading;
 use histories::Call::*;
 use rounding::Refusal::*;
+use rounding::figure;
 use runs::Answer::*;
 
 pub const RUN: [Row; 242] = [

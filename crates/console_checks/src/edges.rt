@@ -1,5 +1,4 @@
 // Lanes at the edges of what they hold: the largest and the smallest exponents, and a full lane.
-use crate::rows::figure;
 use crate::tables::row_stands;
 use console::{Console, Reading};
 use histories::Call::{Read, Turn};
@@ -9,6 +8,7 @@ use kinds::{Binary, Decimal};
 use methods::kahan::Kahan;
 use methods::method::Method;
 use rounding::Refusal::PhasorRange;
+use rounding::figure;
 use runs::Answer::{Count, Shown};
 use std::marker::PhantomData;
 use std::test::Fail;

@@ -3,7 +3,6 @@ ghost use Rattle.std.specs.Prelude.{◌≡◌, ℕ, ◌<◌, OnOk};
 ghost use Rattle.lanes.specs.Lanes.{at};
 ghost use Rattle.console.specs.Readings.{reading_of};
 
-use crate::rows::figure;
 use crate::tables::row_stands;
 use console::{Console, Reading};
 use histories::Call::{Determinant, Product, Read, Restart, Sum, Turn};
@@ -13,6 +12,7 @@ use kinds::{Binary, Decimal};
 use methods::kahan::Kahan;
 use methods::method::Method;
 use rounding::Refusal::{LaneFull, NoLane, OperandNoFigure, OperandRange, PhasorRange};
+use rounding::figure;
 use runs::Answer::Count;
 use std::marker::PhantomData;
 use std::test::Fail;

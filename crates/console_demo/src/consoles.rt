@@ -4,38 +4,25 @@ ghost use Rattle.runs.specs.Entries.{unmade, calls_of, answers_of};
 ghost use Rattle.console_demo.specs.Scripts.{said_calls, answers_by};
 
 use crate::scripts::Said;
-use checked_calls::calls::Arrangement;
-use integers::Integers;
-use kinds::{Binary, Decimal};
-use methods::kahan::Kahan;
+use checked_calls::calls::{Arrangement, BINARY, DECIMAL, SYMMETRIC};
 use runs::{Entry, run};
 use std::alloc::{AllocError, Global};
-use std::marker::PhantomData;
-use symmetric_method::Symmetric;
 
-// Makes the calls of the entries of a new console by the arrangement's method.
+// Makes the calls of the entries of a new console by the arrangement's method. In each arm the console has another
+// type, which no closure or `dyn` can name.
 fn run_by(by: Arrangement, entries: &mut [Entry])
     ensures calls { calls_of entries.new ≡ calls_of entries.old }
     ensures answers { answers_of entries.new ≡ answers_by by (calls_of entries.old) }
 {
     match by {
         Arrangement::Binary => {
-            let method = Kahan::<Integers<Binary>> {
-                arithmetic: PhantomData,
-            };
-            run(method, entries);
+            run(BINARY, entries);
         }
         Arrangement::Decimal => {
-            let method = Kahan::<Integers<Decimal>> {
-                arithmetic: PhantomData,
-            };
-            run(method, entries);
+            run(DECIMAL, entries);
         }
         Arrangement::Symmetric => {
-            let method = Symmetric::<Integers<Binary>> {
-                arithmetic: PhantomData,
-            };
-            run(method, entries);
+            run(SYMMETRIC, entries);
         }
     }
 }

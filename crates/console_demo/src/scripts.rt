@@ -3,7 +3,7 @@ ghost use Rattle.std.specs.Prelude.{Some};
 ghost use Rattle.console_demo.specs.Scripts.{user_text};
 
 use histories::Call;
-use rounding::Figure;
+use rounding::{Figure, figure};
 use std::fmt;
 
 // Who asks: the touch filter, which turns the phasors; the results desk, which computes; the referee, who reads.
@@ -33,41 +33,38 @@ pub struct Said {
     pub call: Call,
 }
 
-const ZERO: Figure = Figure { s: 0, q: 0 };
+const ZERO: Figure = figure!(0, 0);
 
 // Binary figures: one, and the next two above it.
-const ONE: Figure = Figure { s: 8388608, q: -23 };
+const ONE: Figure = figure!(8388608, -23);
 
-const ABOVE: Figure = Figure { s: 8388609, q: -23 };
+const ABOVE: Figure = figure!(8388609, -23);
 
-const NEXT: Figure = Figure { s: 8388610, q: -23 };
+const NEXT: Figure = figure!(8388610, -23);
 
-const BELOW_MINUS_ONE: Figure = Figure {
-    s: -8388610,
-    q: -23,
-};
+const BELOW_MINUS_ONE: Figure = figure!(-8388610, -23);
 
 // The largest power of two that a method accepts, one that it does not, and a pair that is no figure.
-const LAST: Figure = Figure { s: 8388608, q: 200 };
+const LAST: Figure = figure!(8388608, 200);
 
-const BEYOND: Figure = Figure { s: 8388608, q: 201 };
+const BEYOND: Figure = figure!(8388608, 201);
 
-const NONE: Figure = Figure { s: 1, q: 0 };
+const NONE: Figure = figure!(1, 0);
 
 // 16777215/4 times 16777219, a tie that the methods take to either side.
 const DIFFERING: Call = Call::Sum(
-    Figure { s: 16777215, q: 0 },
-    Figure { s: 8388610, q: -2 },
-    Figure { s: 16777215, q: 0 },
-    Figure { s: 8388609, q: -2 },
+    figure!(16777215, 0),
+    figure!(8388610, -2),
+    figure!(16777215, 0),
+    figure!(8388609, -2),
 );
 
 // -35184371040256, of which Kahan's answer is exactly 3/2 units of the last place off, the most that it can be.
 const WORST: Call = Call::Sum(
-    Figure { s: 8390656, q: 0 },
-    Figure { s: 8391680, q: 0 },
-    Figure { s: -11010048, q: 0 },
-    Figure { s: 9590882, q: 0 },
+    figure!(8390656, 0),
+    figure!(8391680, 0),
+    figure!(-11010048, 0),
+    figure!(9590882, 0),
 );
 
 // A determinant, a sum and the real part of a product that cancel in every leading digit.
@@ -145,17 +142,17 @@ pub const BINARY: [Said; 16] = [
 ];
 
 // Decimal figures: one, and the next two above it; parts of a number of length one; eight digits, which are no figure.
-const DECIMAL_ONE: Figure = Figure { s: 1000000, q: -6 };
+const DECIMAL_ONE: Figure = figure!(1000000, -6);
 
-const DECIMAL_ABOVE: Figure = Figure { s: 1000001, q: -6 };
+const DECIMAL_ABOVE: Figure = figure!(1000001, -6);
 
-const DECIMAL_NEXT: Figure = Figure { s: 1000002, q: -6 };
+const DECIMAL_NEXT: Figure = figure!(1000002, -6);
 
-const SIX_TENTHS: Figure = Figure { s: 6000000, q: -7 };
+const SIX_TENTHS: Figure = figure!(6000000, -7);
 
-const EIGHT_TENTHS: Figure = Figure { s: 8000000, q: -7 };
+const EIGHT_TENTHS: Figure = figure!(8000000, -7);
 
-const EIGHT_DIGITS: Figure = Figure { s: 12345678, q: 0 };
+const EIGHT_DIGITS: Figure = figure!(12345678, 0);
 
 pub const DECIMAL: [Said; 10] = [
     Said {

@@ -1,53 +1,53 @@
 // The sums, determinants and complex products that the program shows.
 use checked_calls::calls::{Arrangement, Call};
-use rounding::Figure;
+use rounding::figure;
 use sentences::Four;
 
 // 16777215/4 times 16777219, a tie that the methods take to either side.
 const DIFFERING: Call = Call::Sum(
-    Figure { s: 16777215, q: 0 },
-    Figure { s: 8388610, q: -2 },
-    Figure { s: 16777215, q: 0 },
-    Figure { s: 8388609, q: -2 },
+    figure!(16777215, 0),
+    figure!(8388610, -2),
+    figure!(16777215, 0),
+    figure!(8388609, -2),
 );
 
 // -35184371040256, of which Kahan's answer is exactly 3/2 units of the last place off, the most that it can be.
 const WORST: Call = Call::Sum(
-    Figure { s: 8390656, q: 0 },
-    Figure { s: 8391680, q: 0 },
-    Figure { s: -11010048, q: 0 },
-    Figure { s: 9590882, q: 0 },
+    figure!(8390656, 0),
+    figure!(8391680, 0),
+    figure!(-11010048, 0),
+    figure!(9590882, 0),
 );
 
 // A sum with a refused operand: 201 is past the exponents that a method takes.
 const REFUSED: Call = Call::Sum(
-    Figure { s: 8388608, q: 0 },
-    Figure { s: 8388608, q: 201 },
-    Figure { s: 0, q: 0 },
-    Figure { s: 0, q: 0 },
+    figure!(8388608, 0),
+    figure!(8388608, 201),
+    figure!(0, 0),
+    figure!(0, 0),
 );
 
 // Determinants that cancel in every leading digit.
 const NEAR_BINARY: Call = Call::Determinant(
-    Figure { s: 8388609, q: -23 },
-    Figure { s: 8388608, q: -23 },
-    Figure { s: 8388610, q: -23 },
-    Figure { s: 8388609, q: -23 },
+    figure!(8388609, -23),
+    figure!(8388608, -23),
+    figure!(8388610, -23),
+    figure!(8388609, -23),
 );
 
 const NEAR_DECIMAL: Call = Call::Determinant(
-    Figure { s: 1000001, q: -6 },
-    Figure { s: 1000000, q: -6 },
-    Figure { s: 1000002, q: -6 },
-    Figure { s: 1000001, q: -6 },
+    figure!(1000001, -6),
+    figure!(1000000, -6),
+    figure!(1000002, -6),
+    figure!(1000001, -6),
 );
 
 // The sum of two products that cancel the same way.
 const SUM_DECIMAL: Call = Call::Sum(
-    Figure { s: 1000001, q: -6 },
-    Figure { s: 1000001, q: -6 },
-    Figure { s: -1000002, q: -6 },
-    Figure { s: 1000000, q: -6 },
+    figure!(1000001, -6),
+    figure!(1000001, -6),
+    figure!(-1000002, -6),
+    figure!(1000000, -6),
 );
 
 pub const CALLS: [(Arrangement, Call); 9] = [
@@ -66,23 +66,23 @@ pub const CALLS: [(Arrangement, Call); 9] = [
 pub const PRODUCTS: [Four; 3] = [
     Four {
         by: Arrangement::Binary,
-        a: Figure { s: 8388609, q: -23 },
-        b: Figure { s: 8388608, q: -23 },
-        c: Figure { s: 8388609, q: -23 },
-        d: Figure { s: 8388610, q: -23 },
+        a: figure!(8388609, -23),
+        b: figure!(8388608, -23),
+        c: figure!(8388609, -23),
+        d: figure!(8388610, -23),
     },
     Four {
         by: Arrangement::Symmetric,
-        a: Figure { s: 8388609, q: -23 },
-        b: Figure { s: 8388608, q: -23 },
-        c: Figure { s: 8388609, q: -23 },
-        d: Figure { s: 8388610, q: -23 },
+        a: figure!(8388609, -23),
+        b: figure!(8388608, -23),
+        c: figure!(8388609, -23),
+        d: figure!(8388610, -23),
     },
     Four {
         by: Arrangement::Decimal,
-        a: Figure { s: 1000001, q: -6 },
-        b: Figure { s: 1000000, q: -6 },
-        c: Figure { s: 1000001, q: -6 },
-        d: Figure { s: 1000002, q: -6 },
+        a: figure!(1000001, -6),
+        b: figure!(1000000, -6),
+        c: figure!(1000001, -6),
+        d: figure!(1000002, -6),
     },
 ];

@@ -9,7 +9,7 @@ ghost use Rattle.heats.specs.Steps.{products_first, error_kept};
 use anyhow::Context;
 use checked_calls::calls::{Answered, Arrangement, Call, answer_of};
 use figures::opposite;
-use rounding::Figure;
+use rounding::{Figure, figure};
 use sentences::Shown;
 use sentences::operations::Sentence;
 use verdict::Verdict;
@@ -27,17 +27,17 @@ pub struct Heat {
 
 impl Heat {
     pub const BINARY: Heat = Heat {
-        a: Figure { s: 8388609, q: -23 },
-        b: Figure { s: 8388609, q: -23 },
-        c: Figure { s: 8388610, q: -23 },
-        d: Figure { s: 8388608, q: -23 },
+        a: figure!(8388609, -23),
+        b: figure!(8388609, -23),
+        c: figure!(8388610, -23),
+        d: figure!(8388608, -23),
     };
 
     pub const DECIMAL: Heat = Heat {
-        a: Figure { s: 1000001, q: -6 },
-        b: Figure { s: 1000001, q: -6 },
-        c: Figure { s: 1000002, q: -6 },
-        d: Figure { s: 1000000, q: -6 },
+        a: figure!(1000001, -6),
+        b: figure!(1000001, -6),
+        c: figure!(1000002, -6),
+        d: figure!(1000000, -6),
     };
 }
 

@@ -1,4 +1,5 @@
-// Sums of two products, determinants and complex products, by any method.
+// Sums of two products, determinants and complex products, by any method. The four figures stand apart, and not in a
+// struct, since each call gives them to the method in an order of its own.
 #![tactic(auto)]
 
 ghost use Rattle.std.specs.Prelude.{◌≡◌};

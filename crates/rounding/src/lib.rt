@@ -16,6 +16,14 @@ pub struct Figure {
     pub q: i32,
 }
 
+// The figure of a significand and an exponent, also where a constant's value may call no function.
+#[macro_export]
+macro_rules! figure {
+    ($s:expr, $q:expr) => {
+        $crate::Figure { s: $s, q: $q }
+    };
+}
+
 impl Figure {
     ghost use Rattle.rounding.specs.Operations.{reaches};
 

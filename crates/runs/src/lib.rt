@@ -35,7 +35,8 @@ pub struct Entry {
 }
 
 impl Entry {
-    // A call that is yet to be made: the refusal in the place of its answer says nothing.
+    // A call that is yet to be made: the refusal in the place of its answer says nothing. (With an `Option` there, every
+    // law of a run would have a case for an answer that is missing, which after the run none is.)
     pub fn new(call: Call) -> Entry
         ensures { result ≡ unmade call }
     {
@@ -46,7 +47,7 @@ impl Entry {
     }
 }
 
-// The answer to a call.
+// The answer to a call. A call is a value and no closure, since histories record it.
 fn answer_to<M: Method>(console: &mut Console<M>, call: Call) -> Result<Answer, Refusal>
     ensures answer { coded result ≡ answer_to M.Arith.RADIX M.Arith.PRECISION
         (M.Method.answer console.old.method) console.old.lanes call }

@@ -14,7 +14,7 @@ use std::fmt;
 pub mod consoles;
 pub mod operations;
 
-// The text of a figure of the arrangement's kind.
+// The text of a figure of the arrangement's kind. Each arm runs generic code over another kind.
 fn spell_in(by: Arrangement, f: Figure) -> Spelling
     ensures { result ≡ figure_text by f }
 {
