@@ -48,6 +48,18 @@ pub struct Reading {
     pub imaginary: Figure,
 }
 
+impl From<Lane> for Reading {
+    ghost from_gives = { λ lane reading. reading ≡ reading_of lane };
+
+    fn from(lane: Lane) -> Reading {
+        Reading {
+            count: lane.count,
+            real: lane.phasor.real,
+            imaginary: lane.phasor.imaginary,
+        }
+    }
+}
+
 impl<M: Method> Console<M> {
     // What is proved of a new console.
     fn new_law(method: &M)
@@ -207,11 +219,6 @@ impl<M: Method> Console<M> {
             (M.Method.num self.now.method) (M.Method.den self.now.method)
             self.now.lanes lane (coded result) }
     {
-        let read = self.lane(lane)?;
-        Ok(Reading {
-            count: read.count,
-            real: read.phasor.real,
-            imaginary: read.phasor.imaginary,
-        })
+        Ok(Reading::from(self.lane(lane)?))
     }
 }
