@@ -56,15 +56,14 @@ fn answer_to<M: Method>(console: &mut Console<M>, call: Call) -> Result<Answer, 
     ensures method { console.new.method ≡ console.old.method }
 {
     match call {
-        Call::Sum(a, b, c, d) => Ok(Answer::Value(console.sum(a, b, c, d)?)),
-        Call::Determinant(a, b, c, d) => Ok(Answer::Value(console.determinant(a, b, c, d)?)),
-        Call::Product(a, b, c, d) => {
-            let (real, imaginary) = console.complex_product(a, b, c, d)?;
-            Ok(Answer::Parts(real, imaginary))
-        }
-        Call::Turn(i, c, d) => Ok(Answer::Count(console.turn(i, c, d)?)),
-        Call::Restart(i) => Ok(Answer::Count(console.restart(i)?)),
-        Call::Read(i) => Ok(Answer::Shown(console.read(i)?)),
+        Call::Sum(a, b, c, d) => console.sum(a, b, c, d).map(Answer::Value),
+        Call::Determinant(a, b, c, d) => console.determinant(a, b, c, d).map(Answer::Value),
+        Call::Product(a, b, c, d) => console
+            .complex_product(a, b, c, d)
+            .map(|(real, imaginary)| Answer::Parts(real, imaginary)),
+        Call::Turn(i, c, d) => console.turn(i, c, d).map(Answer::Count),
+        Call::Restart(i) => console.restart(i).map(Answer::Count),
+        Call::Read(i) => console.read(i).map(Answer::Shown),
     }
 }
 
