@@ -8,7 +8,9 @@ use Rattle.rounding.specs.Operations.{is_figure, reaches}
 
 -- what is wrong with an operand of a method: no figure of the kind, before an exponent outside -200..200
 abbrev pub fault : ℕ → ℕ → Figure → Option ℕ
-fault β p f = if is_figure β p f then (if reaches 200 f then None else Some (number OperandRange)) else Some (number OperandNoFigure)
+fault β p f =
+    if is_figure β p f then (if reaches 200 f then None else Some (number OperandRange))
+    else Some (number OperandNoFigure)
 
 -- the first fault from the left
 abbrev pub faults : ℕ → ℕ → Figure → Figure → Figure → Figure → Option ℕ

@@ -1,5 +1,5 @@
-// A console: one method, and ten lanes whose phasors turn. The operands of a call stand apart, as in `products`; so do c
-// and d of a turn, which are no phasor yet: any words, until the call has tested them.
+// A console: one method, and ten lanes whose phasors turn. The operands of a call stand apart, as in `products`; so do
+// c and d of a turn, which are no phasor yet: any words, until the call has tested them.
 #![tactic(auto)]
 
 ghost use Rattle.std.specs.Prelude.{◌≡◌, ◌+◌, [], replicate};

@@ -1,5 +1,6 @@
 -- How far an answer lies from an exact value: against that value, and in units of its last place.
-use Rattle.std.specs.Prelude.{◌≡◌, ℕ, ◌-◌, ◌*◌, ◌^◌, ◌<◌, ◌≤◌, if◌then◌else◌, ℤ, pos, ◌+ℤ◌, ◌-ℤ◌, ◌≤ℤ◌, ◌==◌, unsigned_abs}
+use Rattle.std.specs.Prelude.{◌≡◌, ℕ, ◌-◌, ◌*◌, ◌^◌, ◌<◌, ◌≤◌, ℤ, pos, ◌+ℤ◌, ◌-ℤ◌, ◌≤ℤ◌, ◌==◌, unsigned_abs}
+use Rattle.std.specs.Prelude.{if◌then◌else◌}
 use Rattle.rounding.specs.Exact.{Exact, units, distance}
 use Rattle.rounding.specs.Digits.{digits}
 
@@ -10,7 +11,8 @@ Within β n d r x = (k : ℤ) → k ≤ℤ r.e → k ≤ℤ x.e → d * distance
 -- the unit in the last place of x: the power of β in which x has p digits; of zero it is zero
 unfoldable pub ulp : ℕ → ℕ → Exact → Exact
 ulp β p x =
-    if unsigned_abs x.m == 0 then (record { m = pos 0; e = pos 0 }) else (record { m = pos 1; e = x.e +ℤ pos (digits β (unsigned_abs x.m)) -ℤ pos p })
+    if unsigned_abs x.m == 0 then (record { m = pos 0; e = pos 0 })
+    else (record { m = pos 1; e = x.e +ℤ pos (digits β (unsigned_abs x.m)) -ℤ pos p })
 
 -- β^(p-1) ≤ |x| / u < β^p, and of zero u is zero
 pub record LastPlace (β p : ℕ) (x u : Exact) : Type 0 where

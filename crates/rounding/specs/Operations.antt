@@ -14,7 +14,8 @@ reaches l f = nat_le (unsigned_abs f.q) l
 -- a figure of the kind with radix β and precision p: zero is s = 0 with q = 0 alone, every other has p digits
 abbrev pub is_figure : ℕ → ℕ → Figure → Bool
 is_figure β p f =
-    if unsigned_abs f.s == 0 then unsigned_abs f.q == 0 else nat_le (β ^ (p - 1)) (unsigned_abs f.s) && (nat_lt (unsigned_abs f.s) (β ^ p) && reaches 2000 f)
+    if unsigned_abs f.s == 0 then unsigned_abs f.q == 0
+    else nat_le (β ^ (p - 1)) (unsigned_abs f.s) && (nat_lt (unsigned_abs f.s) (β ^ p) && reaches 2000 f)
 
 abbrev pub no_figure : ℕ → ℕ → Figure → Option ℕ
 no_figure β p f = if is_figure β p f then None else Some (number NoFigure)

@@ -1,6 +1,6 @@
 -- The figure of an exact number: to nearest, ties to even, exponent unbounded.
-use Rattle.std.specs.Prelude.{ℕ, ◌+◌, ◌-◌, ◌*◌, ◌/◌, ◌%◌, ◌^◌, Bool, true, false, if◌then◌else◌, ℤ, pos, negsuc, ◌+ℤ◌, ◌-ℤ◌}
-use Rattle.std.specs.Prelude.{neg_ℤ, ◌==◌, nat_lt, unsigned_abs}
+use Rattle.std.specs.Prelude.{ℕ, ◌+◌, ◌-◌, ◌*◌, ◌/◌, ◌%◌, ◌^◌, Bool, true, false, ℤ, pos, negsuc, ◌+ℤ◌, ◌-ℤ◌}
+use Rattle.std.specs.Prelude.{if◌then◌else◌, neg_ℤ, ◌==◌, nat_lt, unsigned_abs}
 use Rattle.rounding.specs.declared.Figure.{Figure}
 use Rattle.rounding.specs.Exact.{Exact}
 use Rattle.rounding.specs.Digits.{digits}
@@ -29,7 +29,8 @@ quotient u n = n / u + raise u (n / u) (2 * (n % u))
 -- ± s × β^q as a figure of p digits, where rounding up may have brought s to β^p
 abbrev pub carried : ℕ → ℕ → Bool → ℕ → ℤ → Figure
 carried β p neg s q =
-    if nat_lt s (β ^ p) then (record { s = signed neg s; q = q }) else (record { s = signed neg (β ^ (p - 1)); q = q +ℤ pos 1 })
+    if nat_lt s (β ^ p) then (record { s = signed neg s; q = q })
+    else (record { s = signed neg (β ^ (p - 1)); q = q +ℤ pos 1 })
 
 -- |m| with p - 1 digits more: it has p digits at least, so that digits are only ever dropped
 abbrev pub widened : ℕ → ℕ → Exact → ℕ

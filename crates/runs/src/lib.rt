@@ -35,8 +35,8 @@ pub struct Entry {
 }
 
 impl Entry {
-    // A call that is yet to be made: the refusal in the place of its answer says nothing. (With an `Option` there, every
-    // law of a run would have a case for an answer that is missing, which after the run none is.)
+    // A call that is yet to be made: the refusal in the place of its answer says nothing. (With an `Option` there,
+    // every law of a run would have a case for an answer that is missing, which after the run none is.)
     pub fn new(call: Call) -> Entry
         ensures { result ≡ unmade call }
     {
