@@ -49,7 +49,8 @@ pub const SYMMETRIC: Symmetric<Integers<kinds::Binary>> = Symmetric {
     arithmetic: PhantomData,
 };
 
-// A call as a value, which can be shown beside its answer.
+// A call as a value, which can be shown beside its answer. It is made with no console, so that it has operations, and
+// no lanes.
 #[derive(Clone, Copy)]
 pub enum Call {
     Multiply(Figure, Figure),
@@ -67,7 +68,7 @@ pub struct Answered {
     pub answer: Result<Figure, Refusal>,
 }
 
-// Makes a call by any method and its arithmetic.
+// Makes a call by any method and its arithmetic. A call is a value and no closure, since it is shown.
 #[tactic(auto, unfolding(crate::specs::Calls::answered))]
 fn perform<M: Method>(method: &M, call: Call) -> Result<Figure, Refusal>
     ensures { coded result ≡ answered M.Arith.RADIX M.Arith.PRECISION
@@ -93,7 +94,7 @@ pub fn answer_of(by: Arrangement, call: Call) -> Result<Figure, Refusal>
     }
 }
 
-// A complex product by any method.
+// A complex product by any method, its operands apart as in `products`.
 #[tactic(auto, unfolding(crate::specs::Calls::product_of))]
 fn product_by<M: Method>(
     method: &M,

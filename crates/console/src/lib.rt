@@ -1,12 +1,14 @@
 // A console: one method, and ten lanes whose phasors turn. The operands of a call stand apart, as in `products`; so do
-// c and d of a turn, which are no phasor yet: any words, until the call has tested them.
+// c and d of a turn, as its refusals are of c before d. What is proved of a call, for any radix, precision and method, is
+// the contract of a function with no body beside it: named on the call itself, the theorem is not found, since it takes
+// a law of a bound, and an answer by hand would stand before the edits of the call.
 #![tactic(auto)]
 
-ghost use Rattle.std.specs.Prelude.{◌≡◌, ◌+◌, [], replicate};
+ghost use Rattle.std.specs.Prelude.{◌≡◌, ◌+◌, []};
 ghost use Rattle.rounding.specs.Refusals.{unless, coded};
 ghost use Rattle.figures.specs.Figures.{opposite};
 ghost use Rattle.bounds.specs.Fours.{faults};
-ghost use Rattle.lanes.specs.Lanes.{at, fresh_lane};
+ghost use Rattle.lanes.specs.Lanes.{at, fresh_lanes};
 ghost use Rattle.lanes.specs.Turning.{no_lane, turn_fault, after_turn, after_restart};
 ghost use Rattle.histories.specs.declared.Call.TheVariants.{Sum, Determinant, Product, Turn, Restart, Read};
 ghost use Rattle.histories.specs.Tracking.{TrackHistory, event, KeepsTrack};
@@ -40,7 +42,7 @@ impl<M: Method> Model for Console<M> {
     ghost view = { λ console. record { method = console.method; lanes = console.lanes } };
 }
 
-// What a lane shows: its count, and both parts of its phasor.
+// What a lane shows: its count, and both parts of its phasor. Users see it, while a `Lane` is known to the table alone.
 #[derive(Clone, Copy, Debug, PartialEq, Eq)]
 pub struct Reading {
     pub count: u32,
@@ -65,13 +67,13 @@ impl<M: Method> Console<M> {
     fn new_law(method: &M)
         ensures { TrackHistory M.Arith.RADIX M.Arith.PRECISION
             (M.Method.num method.now) (M.Method.den method.now)
-            [] (replicate 10 (fresh_lane M.Arith.RADIX M.Arith.PRECISION)) }
+            [] (fresh_lanes M.Arith.RADIX M.Arith.PRECISION) }
     {}
 
     // A console with ten fresh lanes. They track the empty history.
     pub fn new(method: M) -> Self
         ensures method { result.method ≡ method }
-        ensures lanes { result.lanes ≡ replicate 10 (fresh_lane M.Arith.RADIX M.Arith.PRECISION) }
+        ensures lanes { result.lanes ≡ fresh_lanes M.Arith.RADIX M.Arith.PRECISION }
         ensures track { TrackHistory M.Arith.RADIX M.Arith.PRECISION (M.Method.num method)
             (M.Method.den method) [] result.lanes }
     {

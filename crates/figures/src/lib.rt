@@ -19,9 +19,9 @@ pub fn is_figure(format: Format, f: Figure) -> bool
 {
     let size = f.s.unsigned_abs() as u64;
     if size == 0 {
-        f.q.unsigned_abs() == 0
+        f.q == 0
     } else {
-        format.least <= size && size < format.top && f.reaches(2000)
+        (format.least..format.top).contains(&size) && f.reaches(2000)
     }
 }
 
@@ -36,7 +36,7 @@ pub fn one<K: Kind>() -> Figure
     }
 }
 
-// -s at the same exponent.
+// -s at the same exponent. A function and no operator, since it is total: the smallest word stays as it is.
 pub fn opposite(f: Figure) -> Figure
     ensures { result ≡ flipped f }
 {

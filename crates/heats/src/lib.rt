@@ -25,6 +25,7 @@ pub struct Heat {
     pub d: Figure,
 }
 
+// A heat of each kind in which both products round to the same figure.
 impl Heat {
     pub const BINARY: Heat = Heat {
         a: figure!(8388609, -23),

@@ -6,6 +6,7 @@ use rounding::Figure;
 use std::cmp::Ordering;
 use std::fmt;
 
+// Whose time is less, or that they are the same.
 #[derive(Clone, Copy, Debug, PartialEq, Eq)]
 pub enum Verdict {
     FirstLane,

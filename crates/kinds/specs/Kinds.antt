@@ -1,13 +1,6 @@
 -- What the radix β and the precision p of a kind keep.
 use Rattle.std.specs.Prelude.{◌≡◌, ℕ, ◌-◌, ◌%◌, ◌^◌, ◌≤◌}
-use Rattle.std.proofs.Common.{rules}
 
 -- β is even, p is at least 2, the least significand is at least 24, and every significand fits 24 bits
 abbrev pub IsKind : ℕ → ℕ → Type 0
 IsKind β p = (β % 2 ≡ 0) × (2 ≤ p) × (24 ≤ β ^ (p - 1)) × (β ^ p ≤ 16777216)
-
-pub binary_is_kind : IsKind 2 24
-binary_is_kind = search rules
-
-pub decimal_is_kind : IsKind 10 7
-decimal_is_kind = search rules

@@ -2,7 +2,8 @@
 #![tactic(auto)]
 
 ghost use Rattle.std.specs.Prelude.{ℕ};
-ghost use Rattle.kinds.specs.Kinds.{IsKind, binary_is_kind, decimal_is_kind};
+ghost use Rattle.kinds.specs.Kinds.{IsKind};
+ghost use Rattle.kinds.specs.Constants.{binary_is_kind, decimal_is_kind};
 
 pub mod format;
 pub mod powers;

@@ -42,8 +42,8 @@ impl Format {
 
     // The form of a kind's significands.
     pub fn of<K: Kind>() -> Format
-        ensures radix { result.radix ≡ K.Kind.RADIX }
-        ensures precision { result.precision ≡ K.Kind.PRECISION }
+        ensures radix { result.radix ≡ K.RADIX }
+        ensures precision { result.precision ≡ K.PRECISION }
     {
         Format::with(K::RADIX as u64, K::PRECISION)
     }

@@ -1,5 +1,5 @@
 -- Ten lanes as a list of records.
-use Rattle.std.specs.Prelude.{ℕ, if◌then◌else◌, List, Some, None, Option, nat_lt, slice_index_or, slice_set}
+use Rattle.std.specs.Prelude.{ℕ, if◌then◌else◌, List, Some, None, Option, nat_lt, replicate, slice_index_or, slice_set}
 use Rattle.rounding.specs.Rounding.{zero_figure}
 use Rattle.phasors.specs.Phasors.{unit}
 use Rattle.lanes.specs.declared.Lane.{Lane}
@@ -19,3 +19,7 @@ put ls i l = if nat_lt i 10 then slice_set ls i l else ls
 -- one and zero, not yet turned
 abbrev pub fresh_lane : ℕ → ℕ → Lane
 fresh_lane β p = record { phasor = unit β p; count = 0 }
+
+-- the lanes of a new console
+abbrev pub fresh_lanes : ℕ → ℕ → List Lane
+fresh_lanes β p = replicate 10 (fresh_lane β p)

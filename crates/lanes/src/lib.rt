@@ -46,7 +46,8 @@ impl Lanes {
         self.lanes.get(number as usize).copied()
     }
 
-    // Puts a lane in the place of the one of this number; where there is none, nothing changes.
+    // Puts a lane in the place of the one of this number; where there is none, nothing changes. (Through `get_mut`, the
+    // search does not prove the clause, and an answer by hand would stand before the edits of this function.)
     pub fn set(&mut self, number: u8, lane: Lane)
         ensures { self.new ≡ put self.old number lane }
     {

@@ -12,7 +12,8 @@ use rounding::{Figure, Refusal};
 pub mod kahan;
 pub mod method;
 
-// Refuses an operand that is no figure of the kind, or whose exponent is outside -200..200.
+// Refuses an operand that is no figure of the kind, or whose exponent is outside -200..200: with other refusals than an
+// operation, and one test more.
 pub fn check_operand(format: Format, f: Figure) -> Result<(), Refusal>
     ensures { fault_of result ≡ fault format.radix format.precision f }
 {
@@ -25,7 +26,8 @@ pub fn check_operand(format: Format, f: Figure) -> Result<(), Refusal>
     Ok(())
 }
 
-// Refuses four operands by the first thing that is wrong with them, from the left.
+// Refuses four operands, which stand apart as in `Method::apply`, by the first thing that is wrong with them, from the
+// left.
 pub fn check_operands(
     format: Format,
     a: Figure,

@@ -19,7 +19,8 @@ pub trait Method {
     ghost den: { Self → ℕ };
 
     // The answer to an accepted four; any other is refused by its first fault from the left. The four stand apart and
-    // not in a struct, since callers give them in another order: a determinant is M(a, d, -b, c).
+    // not in a struct, since callers give them in another order: a determinant is M(a, d, -b, c). Each method writes
+    // its own `apply`, since each adds its own bounds to this promise, which a provided one could not.
     fn apply(&self, a: Figure, b: Figure, c: Figure, d: Figure) -> Result<Figure, Refusal>
         ensures { coded result ≡ unless (faults Self.Arith.RADIX Self.Arith.PRECISION a b c d)
             (answer self.now a b c d) };

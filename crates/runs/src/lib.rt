@@ -1,12 +1,12 @@
 // Calls made of a console one after the other, and what all of them together promise.
 #![tactic(auto)]
 
-ghost use Rattle.std.specs.Prelude.{◌≡◌, [], replicate};
+ghost use Rattle.std.specs.Prelude.{◌≡◌, []};
 ghost use Rattle.rounding.specs.Errors.{UlpIsLastPlace};
 ghost use Rattle.rounding.specs.Nearest.{RoundsToNearest};
 ghost use Rattle.rounding.specs.Refusals.{coded};
 ghost use Rattle.bounds.specs.Accuracy.{KahanIsAccurate, SymmetricIsAccurate};
-ghost use Rattle.lanes.specs.Lanes.{fresh_lane};
+ghost use Rattle.lanes.specs.Lanes.{fresh_lanes};
 ghost use Rattle.histories.specs.Tracking.{TrackHistory, event, KeepsTrack};
 ghost use Rattle.runs.specs.Answers.{answer_to, lanes_after};
 ghost use Rattle.runs.specs.Following.{FollowsTrack, CallLaw};
@@ -103,7 +103,7 @@ fn make_all<M: Method>(console: &mut Console<M>, entries: &mut [Entry])
         (calls_of entries.old) }
     ensures method { console.new.method ≡ console.old.method }
     ensures tracked { console.old.lanes
-        ≡ replicate 10 (fresh_lane M.Arith.RADIX M.Arith.PRECISION)
+        ≡ fresh_lanes M.Arith.RADIX M.Arith.PRECISION
         → RunTracked M.Arith.RADIX M.Arith.PRECISION (M.Method.num console.old.method)
         (M.Method.den console.old.method) (M.Method.answer console.old.method)
         entries.new console.new.lanes }
@@ -132,10 +132,10 @@ pub fn run<M: Method>(method: M, entries: &mut [Entry]) -> Console<M>
         (M.Method.den method) (M.Method.answer method) entries.new result.lanes }
     ensures calls { calls_of entries.new ≡ calls_of entries.old }
     ensures answers { answers_of entries.new ≡ answers_to M.Arith.RADIX M.Arith.PRECISION
-        (M.Method.answer method) (replicate 10 (fresh_lane M.Arith.RADIX M.Arith.PRECISION))
+        (M.Method.answer method) (fresh_lanes M.Arith.RADIX M.Arith.PRECISION)
         (calls_of entries.old) }
     ensures lanes { result.lanes ≡ lanes_after_all M.Arith.RADIX M.Arith.PRECISION
-        (M.Method.answer method) (replicate 10 (fresh_lane M.Arith.RADIX M.Arith.PRECISION))
+        (M.Method.answer method) (fresh_lanes M.Arith.RADIX M.Arith.PRECISION)
         (calls_of entries.old) }
     ensures method { result.method ≡ method }
 {

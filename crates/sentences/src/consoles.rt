@@ -9,7 +9,7 @@ use histories::Call;
 use runs::{Answer, Entry};
 use std::fmt;
 
-// A call with its operands.
+// A call with its operands: a value, since histories record calls.
 #[derive(Clone, Copy)]
 struct Asked {
     by: Arrangement,

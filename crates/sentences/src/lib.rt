@@ -3,12 +3,14 @@
 #![tactic(auto)]
 
 ghost use Rattle.std.specs.Prelude.{◌≡◌, Some};
+ghost use Rattle.spelling.specs.Spelled.{text_of};
 ghost use Rattle.sentences.specs.Figures.{figure_text, pair_text, four_text, printed_outcome};
 
 use checked_calls::calls::Arrangement;
 use kinds::{Binary, Decimal};
 use rounding::{Figure, Refusal};
-use spelling::{Spelling, spell};
+use spelling::spell;
+use spelling::text::Spelling;
 use std::fmt;
 
 pub mod consoles;
@@ -16,7 +18,7 @@ pub mod operations;
 
 // The text of a figure of the arrangement's kind. Each arm runs generic code over another kind.
 fn spell_in(by: Arrangement, f: Figure) -> Spelling
-    ensures { result ≡ figure_text by f }
+    ensures { text_of result ≡ figure_text by f }
 {
     match by {
         Arrangement::Binary => spell::<Binary>(f),
@@ -59,7 +61,7 @@ impl fmt::Display for Pair {
     }
 }
 
-// Four of them.
+// Four of them: two pairs, so that the text needs no loop over an array.
 #[derive(Clone, Copy)]
 pub struct Four {
     pub by: Arrangement,

@@ -8,7 +8,7 @@ use checked_calls::calls::{Answered, Arrangement, Call};
 use rounding::{Figure, Refusal};
 use std::fmt;
 
-// A call with its operands.
+// A call with its operands: a value, since calls are stored and shown.
 #[derive(Clone, Copy)]
 struct Operands {
     by: Arrangement,
