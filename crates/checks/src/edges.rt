@@ -2,7 +2,7 @@
 // are no figures. Each test is a function over an arithmetic, so that both kinds are put to the same questions: there
 // `least` and `top` are β^(p-1) and β^p, `half` is half of `top`, and half × β^(q-p) is half a last place of a figure
 // at the exponent q.
-ghost use Rattle.std.specs.Prelude.{◌≡◌, OnOk};
+ghost use Rattle.std.specs.Prelude.{◌≡◌, ◌-◌, ◌^◌, OnOk};
 
 use crate::rows::{answers, refuses};
 use figures::arithmetic::Arithmetic;
@@ -17,6 +17,8 @@ use std::test::Fail;
 fn numbers<A: Arithmetic>(radix: u64, precision: u32, least: u64, top: u64) -> Result<(), Fail>
     ensures radix { OnOk result (radix ≡ A.RADIX) }
     ensures precision { OnOk result (precision ≡ A.PRECISION) }
+    ensures least { OnOk result (least ≡ A.RADIX ^ (A.PRECISION - 1)) }
+    ensures top { OnOk result (top ≡ A.RADIX ^ A.PRECISION) }
 {
     let format = Format::of::<A>();
     if format.radix != radix || format.precision != precision {

@@ -7,17 +7,13 @@ ghost use Rattle.bounds.specs.Fours.{faults};
 
 use crate::rows::{Four, answers, refuses};
 use crate::{binary_kahan, binary_symmetric, decimal_kahan};
-use integers::Integers;
+use checked_calls::calls::{BINARY, DECIMAL, SYMMETRIC};
 use kinds::format::Format;
-use kinds::{Binary, Decimal};
-use methods::kahan::Kahan;
 use methods::method::Method;
 use products::{complex_product, determinant, sum};
 use rounding::Refusal::{OperandNoFigure, OperandRange};
 use rounding::{Figure, Refusal, figure};
-use std::marker::PhantomData;
 use std::test::Fail;
-use symmetric_method::Symmetric;
 
 // Passes only where every call on the operands of the row has the row's answer.
 fn row_stands<M: Method>(method: &M, row: &Four) -> Result<(), Fail>
@@ -39,8 +35,7 @@ fn row_stands<M: Method>(method: &M, row: &Four) -> Result<(), Fail>
     answers(determinant(method, a, b, c, d), row.determinant)?;
     let (real, imaginary) = complex_product(method, a, b, c, d)?;
     answers(Ok(real), row.real)?;
-    answers(Ok(imaginary), row.imaginary)?;
-    Ok(())
+    answers(Ok(imaginary), row.imaginary)
 }
 
 // Passes only where every row of the table stands.
@@ -53,26 +48,17 @@ fn rows_stand<M: Method>(method: &M, table: &[Four]) -> Result<(), Fail> {
 
 #[test]
 fn binary_kahan_rows() -> Result<(), Fail> {
-    let method = Kahan::<Integers<Binary>> {
-        arithmetic: PhantomData,
-    };
-    rows_stand(&method, &binary_kahan::FOURS)
+    rows_stand(&BINARY, &binary_kahan::FOURS)
 }
 
 #[test]
 fn binary_symmetric_rows() -> Result<(), Fail> {
-    let method = Symmetric::<Integers<Binary>> {
-        arithmetic: PhantomData,
-    };
-    rows_stand(&method, &binary_symmetric::FOURS)
+    rows_stand(&SYMMETRIC, &binary_symmetric::FOURS)
 }
 
 #[test]
 fn decimal_kahan_rows() -> Result<(), Fail> {
-    let method = Kahan::<Integers<Decimal>> {
-        arithmetic: PhantomData,
-    };
-    rows_stand(&method, &decimal_kahan::FOURS)
+    rows_stand(&DECIMAL, &decimal_kahan::FOURS)
 }
 
 // Passes only where every call on the four is refused with `want`.
@@ -108,8 +94,7 @@ fn refused_in_each_place<M: Method>(
     four_refused(method, bad, good, good, good, want)?;
     four_refused(method, good, bad, good, good, want)?;
     four_refused(method, good, good, bad, good, want)?;
-    four_refused(method, good, good, good, bad, want)?;
-    Ok(())
+    four_refused(method, good, good, good, bad, want)
 }
 
 // Passes only where `x` anywhere to the left of `y`, with `good` in the other places, is refused with `want`.
@@ -133,8 +118,7 @@ fn refused_by_the_first<M: Method>(
     four_refused(method, x, good, good, y, want)?;
     four_refused(method, good, x, y, good, want)?;
     four_refused(method, good, x, good, y, want)?;
-    four_refused(method, good, good, x, y, want)?;
-    Ok(())
+    four_refused(method, good, good, x, y, want)
 }
 
 // What is no figure is refused as such, also where its exponent is outside -200..200, and a figure whose exponent is
@@ -177,21 +161,15 @@ fn refusals<M: Method>(method: &M) -> Result<(), Fail> {
 
 #[test]
 fn binary_kahan_refusals() -> Result<(), Fail> {
-    refusals(&Kahan::<Integers<Binary>> {
-        arithmetic: PhantomData,
-    })
+    refusals(&BINARY)
 }
 
 #[test]
 fn binary_symmetric_refusals() -> Result<(), Fail> {
-    refusals(&Symmetric::<Integers<Binary>> {
-        arithmetic: PhantomData,
-    })
+    refusals(&SYMMETRIC)
 }
 
 #[test]
 fn decimal_kahan_refusals() -> Result<(), Fail> {
-    refusals(&Kahan::<Integers<Decimal>> {
-        arithmetic: PhantomData,
-    })
+    refusals(&DECIMAL)
 }

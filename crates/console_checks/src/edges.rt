@@ -1,18 +1,14 @@
 // Lanes at the edges of what they hold: the largest and the smallest exponents, and a full lane.
 use crate::tables::row_stands;
+use checked_calls::calls::{BINARY, DECIMAL, SYMMETRIC};
 use console::{Console, Reading};
 use histories::Call::{Read, Turn};
-use integers::Integers;
 use kinds::format::Format;
-use kinds::{Binary, Decimal};
-use methods::kahan::Kahan;
 use methods::method::Method;
 use rounding::Refusal::PhasorRange;
 use rounding::figure;
 use runs::Answer::{Count, Shown};
-use std::marker::PhantomData;
 use std::test::Fail;
-use symmetric_method::Symmetric;
 
 // A lane is turned by the radix until its exponent is 200, and another by the radix's inverse until it is -200; once
 // more and it would stray, whichever part holds it. `least` is the least significand, of so many digits.
@@ -56,21 +52,15 @@ fn driven<M: Method>(console: &mut Console<M>) -> Result<(), Fail> {
 
 #[test]
 fn binary_kahan_driven() -> Result<(), Fail> {
-    driven(&mut Console::new(Kahan::<Integers<Binary>> {
-        arithmetic: PhantomData,
-    }))
+    driven(&mut Console::new(BINARY))
 }
 
 #[test]
 fn binary_symmetric_driven() -> Result<(), Fail> {
-    driven(&mut Console::new(Symmetric::<Integers<Binary>> {
-        arithmetic: PhantomData,
-    }))
+    driven(&mut Console::new(SYMMETRIC))
 }
 
 #[test]
 fn decimal_kahan_driven() -> Result<(), Fail> {
-    driven(&mut Console::new(Kahan::<Integers<Decimal>> {
-        arithmetic: PhantomData,
-    }))
+    driven(&mut Console::new(DECIMAL))
 }

@@ -4,19 +4,15 @@ ghost use Rattle.lanes.specs.Lanes.{at};
 ghost use Rattle.console.specs.Readings.{reading_of};
 
 use crate::tables::row_stands;
+use checked_calls::calls::{BINARY, DECIMAL, SYMMETRIC};
 use console::{Console, Reading};
 use histories::Call::{Determinant, Product, Read, Restart, Sum, Turn};
-use integers::Integers;
 use kinds::format::Format;
-use kinds::{Binary, Decimal};
-use methods::kahan::Kahan;
 use methods::method::Method;
 use rounding::Refusal::{LaneFull, NoLane, OperandNoFigure, OperandRange, PhasorRange};
 use rounding::figure;
 use runs::Answer::Count;
-use std::marker::PhantomData;
 use std::test::Fail;
-use symmetric_method::Symmetric;
 
 // Passes only where the two readings are the same.
 fn same_reading(one: Reading, other: Reading) -> Result<(), Fail>
@@ -117,33 +113,21 @@ fn refusals<M: Method>(console: &mut Console<M>, twin: &mut Console<M>) -> Resul
 
 #[test]
 fn binary_kahan_refusals() -> Result<(), Fail> {
-    let mut console = Console::new(Kahan::<Integers<Binary>> {
-        arithmetic: PhantomData,
-    });
-    let mut twin = Console::new(Kahan::<Integers<Binary>> {
-        arithmetic: PhantomData,
-    });
+    let mut console = Console::new(BINARY);
+    let mut twin = Console::new(BINARY);
     refusals(&mut console, &mut twin)
 }
 
 #[test]
 fn binary_symmetric_refusals() -> Result<(), Fail> {
-    let mut console = Console::new(Symmetric::<Integers<Binary>> {
-        arithmetic: PhantomData,
-    });
-    let mut twin = Console::new(Symmetric::<Integers<Binary>> {
-        arithmetic: PhantomData,
-    });
+    let mut console = Console::new(SYMMETRIC);
+    let mut twin = Console::new(SYMMETRIC);
     refusals(&mut console, &mut twin)
 }
 
 #[test]
 fn decimal_kahan_refusals() -> Result<(), Fail> {
-    let mut console = Console::new(Kahan::<Integers<Decimal>> {
-        arithmetic: PhantomData,
-    });
-    let mut twin = Console::new(Kahan::<Integers<Decimal>> {
-        arithmetic: PhantomData,
-    });
+    let mut console = Console::new(DECIMAL);
+    let mut twin = Console::new(DECIMAL);
     refusals(&mut console, &mut twin)
 }

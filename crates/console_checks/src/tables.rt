@@ -5,17 +5,13 @@ ghost use Rattle.runs.specs.Answers.{answer_to};
 
 use crate::rows::Row;
 use crate::{binary_kahan, binary_symmetric, decimal_kahan};
+use checked_calls::calls::{BINARY, DECIMAL, SYMMETRIC};
 use console::Console;
 use histories::Call;
-use integers::Integers;
-use kinds::{Binary, Decimal};
-use methods::kahan::Kahan;
 use methods::method::Method;
 use rounding::Refusal;
 use runs::{Answer, perform};
-use std::marker::PhantomData;
 use std::test::Fail;
-use symmetric_method::Symmetric;
 
 // Makes the call of a row, and passes only where it has the row's answer or refusal.
 pub fn row_stands<M: Method>(
@@ -45,24 +41,18 @@ fn rows_stand<M: Method>(console: &mut Console<M>, table: &[Row]) -> Result<(), 
 
 #[test]
 fn binary_kahan_run() -> Result<(), Fail> {
-    let mut console = Console::new(Kahan::<Integers<Binary>> {
-        arithmetic: PhantomData,
-    });
+    let mut console = Console::new(BINARY);
     rows_stand(&mut console, &binary_kahan::RUN)
 }
 
 #[test]
 fn binary_symmetric_run() -> Result<(), Fail> {
-    let mut console = Console::new(Symmetric::<Integers<Binary>> {
-        arithmetic: PhantomData,
-    });
+    let mut console = Console::new(SYMMETRIC);
     rows_stand(&mut console, &binary_symmetric::RUN)
 }
 
 #[test]
 fn decimal_kahan_run() -> Result<(), Fail> {
-    let mut console = Console::new(Kahan::<Integers<Decimal>> {
-        arithmetic: PhantomData,
-    });
+    let mut console = Console::new(DECIMAL);
     rows_stand(&mut console, &decimal_kahan::RUN)
 }

@@ -41,6 +41,11 @@ pub record IsAddend (top : ℕ) (t : Term) : Type 0 where
   pub size : t.size < top * top
   pub exponent : unsigned_abs t.exponent ≤ 4000
 
+-- t can be brought down by k digits
+pub record CanLift (t : Term) (k : ℕ) : Type 0 where
+  pub exponent : unsigned_abs t.exponent ≤ 5000
+  pub few : k ≤ 64
+
 -- t is in the bounds in which it can be rounded in machine words
 pub record FitsWord (t : Term) : Type 0 where
   pub size : t.size < 2 ^ 62

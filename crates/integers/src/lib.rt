@@ -1,8 +1,8 @@
 // The arithmetic of a kind in whole numbers of 64 bits: one text for every kind.
 #![tactic(auto)]
 
-ghost use Rattle.std.specs.Prelude.{◌≡◌, IfErr, None, OnOk, Some};
-ghost use Rattle.rounding.specs.Refusals.{coded, number, unless};
+ghost use Rattle.std.specs.Prelude.{◌≡◌, OnOk};
+ghost use Rattle.rounding.specs.Refusals.{coded, fault_of, unless};
 ghost use Rattle.rounding.specs.Operations.{no_figure, outside};
 ghost use Rattle.integers.specs.Terms.{IsOperand};
 ghost use Rattle.std.proofs.Common.{rules};
@@ -53,9 +53,8 @@ fn within_range(f: Figure) -> Result<Figure, Refusal>
 
 // Refuses what is no figure of the kind.
 fn check_operand(format: Format, f: Figure) -> Result<(), Refusal>
-    ensures ok { OnOk result (no_figure format.radix format.precision f ≡ None) }
+    ensures fault { fault_of result ≡ no_figure format.radix format.precision f }
     ensures small { OnOk result (IsOperand format.top f) }
-    ensures err { IfErr result (λ e. no_figure format.radix format.precision f ≡ Some (number e)) }
 {
     if is_figure(format, f) {
         Ok(())

@@ -1,6 +1,7 @@
 // One rounding to the digits of a kind: to nearest, ties to even.
 ghost use Rattle.std.specs.Prelude.{◌≡◌, ◌+◌, ◌*◌, ◌/◌, ◌^◌, ◌<◌, ◌≤◌, unsigned_abs};
 ghost use Rattle.rounding.specs.Rounding.{carried, raise, signed};
+ghost use Rattle.integers.specs.Terms.{CanLift};
 ghost use Rattle.integers.specs.Rounding.{extended_figure, nearest_figure, one_if, shortened_figure};
 
 use crate::terms::{Term, Truncated};
@@ -59,8 +60,7 @@ impl Term {
     // The term with zeros appended up to p digits.
     fn extended(self, format: Format, by: u32) -> Figure
         requires size { self.size * format.radix ^ by < format.top }
-        requires exponent { unsigned_abs self.exponent ≤ 5000 }
-        requires few { by ≤ 64 }
+        requires reach { CanLift self by }
         ensures { result ≡ extended_figure format.radix format.precision self by }
     {
         self.lifted(format.radix, by).renormalized(format)

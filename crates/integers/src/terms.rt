@@ -1,7 +1,7 @@
 // A number as the machine holds it: a sign, a size and an exponent.
 ghost use Rattle.std.specs.Prelude.{◌≡◌, ◌*◌, ◌^◌, ◌<◌, ◌≤◌, unsigned_abs};
 ghost use Rattle.rounding.specs.Exact.{product};
-ghost use Rattle.integers.specs.Terms.{exact, IsAddend, IsOperand, IsTermOf, lifted, worth};
+ghost use Rattle.integers.specs.Terms.{CanLift, exact, IsAddend, IsOperand, IsTermOf, lifted, worth};
 ghost use Rattle.integers.specs.Rounding.{RoundsAs};
 
 use kinds::format::Format;
@@ -70,8 +70,7 @@ impl Term {
     // The same number, with zeros appended.
     pub(crate) fn lifted(self, radix: u64, by: u32) -> Term
         requires size { self.size * radix ^ by < 2 ^ 64 }
-        requires exponent { unsigned_abs self.exponent ≤ 5000 }
-        requires few { by ≤ 64 }
+        requires reach { CanLift self by }
         ensures { result ≡ lifted radix self by }
     {
         Term {
