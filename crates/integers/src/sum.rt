@@ -47,7 +47,7 @@ impl Term {
     }
 
     // The sum with a lower term, this one brought up by some of the digits between them, the lower split where that
-    // ends.
+    // ends. (Its bounds are those of this step alone.)
     fn aligned_at(self, format: Format, low: Term, distance: u32, by: u32) -> Truncated
         requires high { self.size * format.radix ^ by < 2 ^ 61 }
         requires low { low.size < 2 ^ 61 }

@@ -68,7 +68,8 @@ impl Format {
     }
 
     // The digits of n, counted: a power climbs, from β^p on where n has passed that, until the next would pass n. (The
-    // library's `ilog` divides once for each digit: with it a decimal determinant takes more than twice as long.)
+    // library's `ilog` divides once for each digit: with it a decimal determinant takes more than twice as long, and
+    // longer than one of MPFR's.)
     fn counted(self, n: u64) -> u32
         ensures is { result ≡ digits self.radix n }
         ensures few { result ≤ 64 }

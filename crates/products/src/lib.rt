@@ -1,5 +1,5 @@
 // Sums of two products, determinants and complex products, by any method. The four figures stand apart, and not in a
-// struct, since each call gives them to the method in an order of its own.
+// struct, since the determinant and the parts of a product give them to the method in other orders than a, b, c, d.
 #![tactic(auto)]
 
 ghost use Rattle.std.specs.Prelude.{◌≡◌};

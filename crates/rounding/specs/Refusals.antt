@@ -1,4 +1,5 @@
--- The numbers of the refusals, and how an answer is told by them: first what is at fault, then the value.
+-- The numbers of the refusals, and how an answer is told by them: first what is at fault, then the value. Contracts
+-- compare refusals by these numbers, since they are what tables and reports show.
 use Rattle.std.specs.Prelude.{ℕ, Some, None, Ok, Err, Option, Result}
 use Rattle.rounding.specs.declared.Refusal.{Refusal}
 use Rattle.rounding.specs.declared.Refusal.TheVariants.{NoFigure, ResultRange, OperandNoFigure, OperandRange}
