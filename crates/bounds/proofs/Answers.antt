@@ -6,10 +6,10 @@ use borrow.Author.Differences.{ints}
 use Rattle.std.specs.Int.{int_min}
 use Rattle.std.proofs.lemmas.Int.{clamps}
 use Rattle.std.proofs.lemmas.Bool.{cases_lt}
+use Rattle.std.proofs.lemmas.Int.{unsigned_abs-mul}
+use native.Mathlib.Nat.{le_of_mul-le-mul_right}
 use Rattle.whole.proofs.Comparisons.{≤ℤ-trans}
-use Rattle.whole.proofs.Integers.{nat_abs_mul}
 use Rattle.whole.proofs.Powers.{power_pos, power_split}
-use Rattle.whole.proofs.Quotients.{cancel_le}
 use Rattle.rounding.specs.declared.Figure.{Figure}
 use Rattle.rounding.specs.Exact.{Exact, value, product, units, plus, distance}
 use Rattle.rounding.specs.Errors.{Within, ulp, WithinPlaces}
@@ -36,10 +36,10 @@ use Rattle.bounds.proofs.Counts.{ground, product_term, sum_units, kahan_count, s
 coarser : (β n d : ℕ) (r x y : Exact) (k l : ℤ) → 2 ≤ β → l ≤ℤ k → k ≤ℤ r.e → k ≤ℤ x.e → k ≤ℤ y.e
     → d * distance β l r x ≤ n * nat_abs (units β l y) → d * distance β k r x ≤ n * nat_abs (units β k y)
 coarser β n d r x y k l two lk kr kx ky h =
-    cancel_le (d * distance β k r x) (n * nat_abs (units β k y)) E (power_pos β (nat_abs (k -ℤ l)) two)
-    (spread (distance β l r x) (distance β k r x) (nat_abs (units β l y)) (nat_abs (units β k y)) E
+    le_of_mul-le-mul_right {k = E} (spread (distance β l r x) (distance β k r x) (nat_abs (units β l y)) (nat_abs (units β k y)) E
     (distance_finer β l k r x lk kr kx)
-    (ap nat_abs (units_finer β l k y lk ky) ∙ nat_abs_mul (units β k y) (pos (β ^ nat_abs (k -ℤ l)))) h)
+    (ap nat_abs (units_finer β l k y lk ky) ∙ unsigned_abs-mul (units β k y) (pos (β ^ nat_abs (k -ℤ l)))) h)
+    (power_pos β (nat_abs (k -ℤ l)) two)
   where
     E : ℕ
     E = β ^ nat_abs (k -ℤ l)
@@ -155,7 +155,7 @@ module _ (β p : ℕ) (kind : IsKind β p) (a b c d : Figure) (accepted : Accept
   exact_zero : (l : ℤ) → l ≤ℤ (value (kahan β p a b c d)).e → l ≤ℤ x.e → nat_abs x.m ≤ 0
       → distance β l (value (kahan β p a b c d)) x ≤ 0
   exact_zero l lr lx none =
-      let gone : nat_abs (units β l x) ≡ 0 = nat_abs_mul x.m (pos (β ^ nat_abs (x.e -ℤ l)))
+      let gone : nat_abs (units β l x) ≡ 0 = unsigned_abs-mul x.m (pos (β ^ nat_abs (x.e -ℤ l)))
       ∙ nothing (nat_abs x.m) (β ^ nat_abs (x.e -ℤ l)) none in
       off (β ^ (p - 1)) (distance β l (value (kahan β p a b c d)) x) (nat_abs (units β l x)) (power_pos β (p - 1) two)
       gone (kahan_within l lr lx)

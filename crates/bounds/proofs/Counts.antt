@@ -7,7 +7,8 @@ use lib.IntN.{zero-*ℤ, *ℤ-zero}
 use borrow.Author.Differences.{ints}
 use Rattle.std.specs.Int.{int_min}
 use Rattle.std.proofs.lemmas.Int.{clamps}
-use Rattle.whole.proofs.Integers.{+ℤ-*ℤ, neg_left, nat_abs_mul}
+use Rattle.std.proofs.lemmas.Int.{unsigned_abs-mul}
+use Rattle.whole.proofs.Integers.{+ℤ-*ℤ, neg_left}
 use Rattle.whole.proofs.Powers.{power_split}
 use Rattle.rounding.specs.declared.Figure.{Figure}
 use Rattle.rounding.specs.Exact.{Exact, value, product, units, plus}
@@ -80,8 +81,8 @@ module _ (β p : ℕ) (kind : IsKind β p) where
       E = β ^ nat_abs ((product a b).e -ℤ k)
 
       size : nat_abs (units β k (product a b)) ≡ nat_abs a.s * nat_abs b.s * β ^ nat_abs ((product a b).e -ℤ k)
-      size = nat_abs_mul (a.s *ℤ b.s) (pos (β ^ nat_abs ((product a b).e -ℤ k)))
-          ∙ ap (λ (n : ℕ). n * β ^ nat_abs ((product a b).e -ℤ k)) (nat_abs_mul a.s b.s)
+      size = unsigned_abs-mul (a.s *ℤ b.s) (pos (β ^ nat_abs ((product a b).e -ℤ k)))
+          ∙ ap (λ (n : ℕ). n * β ^ nat_abs ((product a b).e -ℤ k)) (unsigned_abs-mul a.s b.s)
 
       below : {n : ℕ} → n < β ^ p → n ≤ ground.c
       below h = omega (arith, power_split β p (omega (arith, kind.1)), ground.top)

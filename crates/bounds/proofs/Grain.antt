@@ -4,7 +4,8 @@ use Rattle.std.proofs.Common.{inr, arith}
 use native.Mathlib.Nat.{dvd_trans}
 use borrow.Author.Differences.{ints}
 use Rattle.std.proofs.lemmas.Bool.{cases_lt}
-use Rattle.whole.proofs.Powers.{power_le, power_order, power_parts, power_next}
+use native.Mathlib.Nat.{pow-succ'}
+use Rattle.whole.proofs.Powers.{power_le, power_order, power_parts}
 use Rattle.bounds.proofs.Divisors.{divides_sum, divides_power}
 use Rattle.bounds.proofs.Laws.{Ground, Laws}
 use Rattle.bounds.proofs.Cases.{fine_grain}
@@ -14,7 +15,7 @@ use Rattle.bounds.proofs.Products.{Parts}
 module _ (β B : ℕ) (ground : Ground β B) (rn : ℤ → ℤ) (law : Laws β B rn) where
   -- β B is the power after B
   pub top_power : β * B ≡ β ^ suc ground.q
-  top_power = ap (λ (n : ℕ). β * n) ground.power ∙ sym (power_next β ground.q)
+  top_power = ap (λ (n : ℕ). β * n) ground.power ∙ sym (pow-succ' β ground.q)
 
   -- the product with the larger unit first
   pub grain : (X Y : ℤ) (i j : ℕ) (a : Parts β B ground rn law X i) (b : Parts β B ground rn law Y j) → b.k ≤ a.k
@@ -34,7 +35,7 @@ module _ (β B : ℕ) (ground : Ground β B) (rn : ℤ → ℤ) (law : Laws β B
         let gw : β * β ^ j ≤ W = omega (
           arith,
           power_le β (suc j) (a.k - suc q) ground.two (omega arith),
-          power_next β j,
+          pow-succ' β j,
         ) in
         let xb : B * (ground.c * W + W) ≤ nat_abs X = omega (
           arith,

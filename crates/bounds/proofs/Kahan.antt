@@ -5,8 +5,9 @@ use Prim.Native.Nat.{◌∣◌}
 use native.Mathlib.Nat.{dvd_trans}
 use borrow.Author.Differences.{ints}
 use Rattle.std.proofs.lemmas.Bool.{cases_lt}
+use native.Mathlib.Nat.{pow-succ'}
 use Rattle.whole.proofs.Integers.{nat_abs_neg}
-use Rattle.whole.proofs.Powers.{power_pos, power_le, power_parts, power_next}
+use Rattle.whole.proofs.Powers.{power_pos, power_le, power_parts}
 use Rattle.bounds.proofs.Divisors.{divides_sum, divides_power}
 use Rattle.bounds.proofs.Laws.{Ground, Coarse, Laws}
 use Rattle.bounds.proofs.Cases.{Shape, from, under, below_exact, fine_grain}
@@ -30,7 +31,7 @@ module _ (β B : ℕ) (ground : Ground β B) (rn : ℤ → ℤ) (law : Laws β B
   Situation P E = (rn P ≡ P) ⊎ ((co : Coarse β B P (rn P)) × (Small co.k E ⊎ Far co.k (P +ℤ E)))
 
   pub half_unit : (k : ℕ) → 2 * (ground.h * β ^ k) ≡ β ^ suc k
-  half_unit k = sym (power_next β k ∙ ap (λ (n : ℕ). n * β ^ k) ground.even ∙ omega arith)
+  half_unit k = sym (pow-succ' β k ∙ ap (λ (n : ℕ). n * β ^ k) ground.even ∙ omega arith)
 
   -- X is a multiple of the grain β^i, at most c c grains; Y a product
   pub situation : (X Y : ℤ) (i j : ℕ) → β ^ i ∣ nat_abs X → nat_abs X ≤ ground.c * ground.c * β ^ i
@@ -87,7 +88,7 @@ module _ (β B : ℕ) (ground : Ground β B) (rn : ℤ → ℤ) (law : Laws β B
             w.error_half,
             K_power (suc co.k),
             power_le β (suc w.k) (q + suc co.k) ground.two l,
-            power_next β w.k,
+            pow-succ' β w.k,
             mul-le-mul_right (β ^ w.k) ground.two,
           ))
           | inr l ↦ inr (dvd_trans (β ^ co.k) (divides_power β co.k j (grain_above co l)) w.error_grain)
@@ -108,7 +109,7 @@ module _ (β B : ℕ) (ground : Ground β B) (rn : ℤ → ℤ) (law : Laws β B
                 omega (
                   arith,
                   w.unit_le,
-                  power_next β (suc q + j),
+                  pow-succ' β (suc q + j),
                   power_pos β (suc q + j) ground.two,
                 ))
           ]
@@ -123,10 +124,10 @@ module _ (β B : ℕ) (ground : Ground β B) (rn : ℤ → ℤ) (law : Laws β B
             | inr n ↦ absurd (omega (arith, few co i n))
           ] in
           let gw : β * β ^ i ≤ V =
-          omega (arith, power_next β i, power_le β (suc i) (suc k) ground.two finer) in
+          omega (arith, pow-succ' β i, power_le β (suc i) (suc k) ground.two finer) in
           let big : β * (B * V) ≤ β ^ w.k = omega (
             arith,
-            power_next β (q + suc k),
+            pow-succ' β (q + suc k),
             ap (λ (n : ℕ). β * n) (K_power (suc k)),
             power_le β (suc (q + suc k)) w.k ground.two far,
           ) in
@@ -223,7 +224,7 @@ module _ (β B : ℕ) (ground : Ground β B) (rn : ℤ → ℤ) (law : Laws β B
           (subst (λ (z : ℤ). β ^ co.k ∣ nat_abs z) s.y_is (divides_sum (β ^ co.k) (rn (pos P)) (rn E)
           (dvd_trans (β ^ co.k) (divides_power β co.k (suc co.k) (omega arith)) co.multiple)
           (subst (λ (n : ℕ). β ^ co.k ∣ n) (sym E_size) m)))
-          (omega (arith, c, ap (λ (n : ℕ). B * n) (power_next β co.k))))
+          (omega (arith, c, ap (λ (n : ℕ). B * n) (pow-succ' β co.k))))
 
   coarse_close : (P E : ℤ) (co : Coarse β B P (rn P)) → rn E ≡ E → Small co.k E → Close β B ground rn law P E
   coarse_close (pos P) E co kept small = small_close P E co kept small

@@ -3,7 +3,8 @@ use Rattle.std.proofs.Common.{◌≡◌, ℕ, suc, ◌+◌, ◌*◌, ◌^◌, �
 use Rattle.std.proofs.Common.{sym, ap, subst, ap₂, inl, inr, mul-le-mul_right, mul-le-mul_left, arith}
 use borrow.Author.Differences.{ints}
 use Rattle.std.proofs.lemmas.Bool.{cases_lt}
-use Rattle.whole.proofs.Powers.{power_le, power_next}
+use native.Mathlib.Nat.{pow-succ'}
+use Rattle.whole.proofs.Powers.{power_le}
 use Rattle.bounds.proofs.Laws.{Ground, Coarse, Laws}
 use Rattle.bounds.proofs.Steps.{not_under}
 use Rattle.bounds.proofs.Kahan.{Situation, half_unit, within_half}
@@ -16,7 +17,7 @@ module _ (β B : ℕ) (ground : Ground β B) (rn : ℤ → ℤ) (law : Laws β B
     | inr a ↦ (let hf : 2 * nat_abs (rn (pos y) -ℤ pos y) ≤ β ^ v = law.half (pos y) v a in omega (arith, ints))
     | inl a ↦
         let K : ℕ = B * β ^ suc v in
-        let KB : β * B * β ^ v ≡ K = omega (arith, ap (λ (n : ℕ). B * n) (power_next β v)) in
+        let KB : β * B * β ^ v ≡ K = omega (arith, ap (λ (n : ℕ). B * n) (pow-succ' β v)) in
         let lo : pos K ≤ℤ rn (pos y) = not_under β B ground rn law y v (omega arith) in
         let hi : rn (pos y) ≤ℤ pos K = law.middle y (suc v) B (omega arith)
         (omega (arith, ground.eight, mul-le-mul_right B ground.two)) (omega (arith, ints)) in
@@ -69,7 +70,7 @@ module _ (β B : ℕ) (ground : Ground β B) (rn : ℤ → ℤ) (law : Laws β B
       unit = elim (cases_lt (suc v) (suc co.k)) [
         | inr a ↦ power_le β (suc co.k) (suc v) ground.two a
         | inl a ↦ absurd (clash (β ^ v) (β ^ suc v) (β ^ suc (suc v)) (β ^ suc co.k) (nat_abs (P +ℤ E))
-            (power_next β v) (power_next β (suc v))
+            (pow-succ' β v) (pow-succ' β (suc v))
             (power_le β (suc (suc v)) (suc co.k) ground.two a) big l)
       ]
 

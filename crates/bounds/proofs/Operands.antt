@@ -48,11 +48,11 @@ operand β p f e = go (is_figure β p f) (reaches 200 f) refl refl e
     go : (a b : Bool) → is_figure β p f ≡ a → reaches 200 f ≡ b
         → cond {A = Option ℕ} a (cond b None (Some 22)) (Some 21) ≡ None → Operand β p f
     go true true x y h = record { figure = x; near = grind (arith, nat_tests) }
-    go true false x y h = absurd (let z : ◌≡◌ {A = ℕ} 0 1 = cc in omega arith)
-    go false b x y h = absurd (let z : ◌≡◌ {A = ℕ} 0 1 = cc in omega arith)
+    go true false x y h = cc
+    go false b x y h = cc
 
 pub none_first : (o u : Option ℕ) → first o u ≡ None → (o ≡ None) × (u ≡ None)
-none_first (Some e) u h = absurd (let z : ◌≡◌ {A = ℕ} 0 1 = cc in omega arith)
+none_first (Some e) u h = cc
 none_first None u h = (refl, h)
 
 pub record Four (β p : ℕ) (a b c d : Figure) : Type 0 where

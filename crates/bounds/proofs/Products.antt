@@ -5,8 +5,8 @@ use Prim.Native.Nat.{◌∣◌}
 use native.Mathlib.Nat.{dvd_trans, dvd-mul_left}
 use borrow.Author.Differences.{ints}
 use Rattle.std.proofs.lemmas.Bool.{cases_lt}
+use native.Mathlib.Nat.{pow-succ'}
 use Rattle.whole.proofs.Integers.{nat_abs_neg}
-use Rattle.whole.proofs.Powers.{power_next}
 use Rattle.bounds.proofs.Divisors.{divides_sum, divides_power}
 use Rattle.bounds.proofs.Laws.{Ground, Laws}
 use Rattle.bounds.proofs.Steps.{zero_fixed}
@@ -104,7 +104,7 @@ module _ (β B : ℕ) (ground : Ground β B) where
         let g : ℕ = β ^ i in
         let u : β ^ (q + i) ≡ B * g = pow-add β q i ∙ ap (λ (n : ℕ). n * g) (sym ground.power) in
         let v : β ^ suc (q + i) ≡ β * (B * g) =
-        power_next β (q + i) ∙ ap (λ (n : ℕ). β * n) u in
+        pow-succ' β (q + i) ∙ ap (λ (n : ℕ). β * n) u in
         elim (cases_lt (β * B * β ^ (q + i)) (nat_abs X)) [
           | inr a ↦ parts_at X i (q + i) p (omega (arith, p.least, ap (λ (n : ℕ). B * n) u)) a (omega arith)
               (omega (arith, mul-le-mul_right (B * g) two))

@@ -6,10 +6,11 @@ use borrow.Author.Differences.{ints}
 use Rattle.std.specs.Int.{int_min}
 use Rattle.std.proofs.lemmas.Int.{clamps}
 use Rattle.std.proofs.lemmas.Bool.{cases_lt}
-use Rattle.whole.proofs.Comparisons.{product_below}
-use Rattle.whole.proofs.Integers.{nat_abs_mul, nat_abs_neg}
+use Rattle.std.proofs.lemmas.Int.{unsigned_abs-mul}
+use native.Mathlib.Nat.{le_of_mul-le-mul_right}
+use Rattle.std.proofs.lemmas.Nat.{mul-lt}
+use Rattle.whole.proofs.Integers.{nat_abs_neg}
 use Rattle.whole.proofs.Powers.{power_pos, power_le, power_order, power_split, power_parts}
-use Rattle.whole.proofs.Quotients.{cancel_le}
 use Rattle.rounding.specs.declared.Figure.{Figure}
 use Rattle.rounding.specs.Exact.{Exact, value, product, units, plus}
 use Rattle.rounding.specs.Rounding.{zero_figure, negative, rounded, widened}
@@ -89,8 +90,8 @@ module _ (β p : ℕ) (two : 2 ≤ β) (some : 2 ≤ p) (few : p ≤ 24) where
       → nat_abs y.q ≤ 200 → Spans β 0 (product x y)
   product_spans x y sx sy qx qy = record {
     m = p + p;
-    small = rw (nat_abs_mul x.s y.s, power_parts β p p (p + p) refl)
-        (product_below (nat_abs x.s) (nat_abs y.s) (β ^ p) sx sy);
+    small = rw (unsigned_abs-mul x.s y.s, power_parts β p p (p + p) refl)
+        (mul-lt (nat_abs x.s) (nat_abs y.s) (β ^ p) (β ^ p) sx sy);
     low = product_low x.q y.q qx qy;
     high = higher x.q y.q qx qy;
   }
@@ -145,7 +146,7 @@ module _ (β p : ℕ) (two : 2 ≤ β) (some : 2 ≤ p) (few : p ≤ 24) where
               let wide : β ^ (p - 1) * β ^ f.j ≤ nat_abs x.m * β ^ (p - 1) =
               place_lo β p two one (β ^ f.j) (widened β p x) f.d f.w f.b f.place in
               let less : β ^ f.j ≤ nat_abs x.m =
-              cancel_le (β ^ f.j) (nat_abs x.m) (β ^ (p - 1)) (power_pos β (p - 1) two) (omega arith) in
+              le_of_mul-le-mul_right {k = β ^ (p - 1)} (omega arith) (power_pos β (p - 1) two) in
               power_order β f.j m two (omega (arith, small))
 
           lower : (e : ℤ) (j : ℕ) → neg_ℤ (pos (400 + 23 * n)) ≤ℤ e
@@ -191,7 +192,7 @@ module _ (β p : ℕ) (two : 2 ≤ β) (some : 2 ≤ p) (few : p ≤ 24) where
           let fits : s.m + i ≤ nat_abs (pos (448 + 2 * n) -ℤ int_min x.e y.e) =
           count z.e (int_min x.e y.e) s.m s.high h in
           let a : nat_abs z.m * β ^ i < β ^ s.m * β ^ i = mul-lt-mul_of_pos_right s.small (power_pos β i two) in
-          rw (nat_abs_mul z.m (pos (β ^ i)))
+          rw (unsigned_abs-mul z.m (pos (β ^ i)))
           (omega (arith, a, power_parts β s.m i (s.m + i) refl, power_le β (s.m + i) _ two fits))
         where
           count : (e k : ℤ) (m : ℕ) → (e +ℤ pos m) ≤ℤ pos (448 + 2 * n) → k ≤ℤ e

@@ -5,8 +5,8 @@ use Rattle.std.proofs.Common.{◌<ℤ◌, sym, ap, ◌∙◌, subst, ap₂, mul-
 use Prim.Native.Nat.{◌∣◌}
 use native.Mathlib.Nat.{dvd_trans, dvd-mul_left, dvd-zero}
 use borrow.Author.Differences.{ints}
+use native.Mathlib.Nat.{pow-succ'}
 use Rattle.whole.proofs.Distances.{gap, pos_gap}
-use Rattle.whole.proofs.Powers.{power_next}
 use Rattle.whole.proofs.Integers.{nat_abs_neg}
 use Rattle.bounds.proofs.Divisors.{divides_sum, divides_power}
 use Rattle.bounds.proofs.Laws.{Ground, Coarse, Laws}
@@ -61,8 +61,8 @@ module _ (β B : ℕ) (ground : Ground β B) (rn : ℤ → ℤ) (law : Laws β B
             omega (arith, ints);
         quarter = λ h.
             let a : 2 * nat_abs (rn (pos y) -ℤ pos y) ≤ β ^ k =
-            law.half (pos y) k (omega (arith, ap (λ (n : ℕ). B * n) (power_next β k))) in
-            let b : 2 * β ^ k ≤ V = omega (arith, power_next β k, mul-le-mul_right (β ^ k) two) in
+            law.half (pos y) k (omega (arith, ap (λ (n : ℕ). B * n) (pow-succ' β k))) in
+            let b : 2 * β ^ k ≤ V = omega (arith, pow-succ' β k, mul-le-mul_right (β ^ k) two) in
             omega (arith, off);
       }
 
@@ -74,7 +74,7 @@ module _ (β B : ℕ) (ground : Ground β B) (rn : ℤ → ℤ) (law : Laws β B
       let V : ℕ = β ^ suc k in
       let K : ℕ = B * V in
       let H : ℕ = ground.h * β ^ k in
-      let VH : V ≡ H + H = power_next β k ∙ ap (λ (n : ℕ). n * β ^ k) ground.even ∙ omega arith in
+      let VH : V ≡ H + H = pow-succ' β k ∙ ap (λ (n : ℕ). n * β ^ k) ground.even ∙ omega arith in
       let i : rn (pos P) ≡ pos (nat_abs (rn (pos P))) = kept_sign P in
       let M : ℤ = pos K +ℤ pos H -ℤ rn (pos P) in
       let hf : 2 * nat_abs (rn (pos P) -ℤ pos P) ≤ V = law.half (pos P) (suc k) (omega arith) in
@@ -87,7 +87,7 @@ module _ (β B : ℕ) (ground : Ground β B) (rn : ℤ → ℤ) (law : Laws β B
       let d3 : β ^ k ∣ nat_abs (neg_ℤ (rn (pos P))) =
       subst (λ (m : ℕ). β ^ k ∣ m) (sym (nat_abs_neg (rn (pos P)))) (dvd_trans (β ^ k) finer multiple) in
       let d4 : β ^ k ∣ nat_abs M = divides_sum (β ^ k) (pos K +ℤ pos H) (neg_ℤ (rn (pos P))) d2 d3 in
-      let Mk : nat_abs M ≤ β * B * β ^ k = omega (arith, ints, ap (λ (m : ℕ). B * m) (power_next β k)) in
+      let Mk : nat_abs M ≤ β * B * β ^ k = omega (arith, ints, ap (λ (m : ℕ). B * m) (pow-succ' β k)) in
       let EM : E ≤ℤ M = omega (arith, ints) in
       subst (λ (z : ℤ). rn E ≤ℤ z) (law.fixed M k d4 Mk) (law.ordered E M EM)
 

@@ -6,9 +6,10 @@ use native.Mathlib.Nat.{dvd_trans}
 use lib.IntN.{+ℤ_comm}
 use borrow.Author.Differences.{ints}
 use Rattle.std.proofs.lemmas.Bool.{cases_lt}
+use native.Mathlib.Nat.{pow-succ'}
 use Rattle.whole.proofs.Distances.{gap}
 use Rattle.whole.proofs.Integers.{nat_abs_neg}
-use Rattle.whole.proofs.Powers.{power_pos, power_le, power_next}
+use Rattle.whole.proofs.Powers.{power_pos, power_le}
 use Rattle.bounds.proofs.Divisors.{divides_sum, divides_power}
 use Rattle.bounds.proofs.Laws.{Ground, Coarse, Laws}
 use Rattle.bounds.proofs.Cases.{from, under, below_near}
@@ -72,7 +73,7 @@ module _ (β B : ℕ) (ground : Ground β B) (rn : ℤ → ℤ) (law : Laws β B
       y_top y b e =
           let H : ℕ = ground.h * β ^ co.k in
           let VH : β ^ suc co.k ≡ H + H =
-          power_next β co.k ∙ ap (λ (n : ℕ). n * β ^ co.k) ground.even ∙ omega arith in
+          pow-succ' β co.k ∙ ap (λ (n : ℕ). n * β ^ co.k) ground.even ∙ omega arith in
           let top : rn E ≤ℤ (pos K +ℤ pos H -ℤ rn (pos P)) = key β B ground rn law P co.k E co.lo co.hi
           co.multiple (omega (arith, V_small β B ground rn law (suc co.k))) (x_below s.x s.x_is b) in
           let yt : y ≤ K + H = sum_top (rn (pos P)) (rn E) K H y e top in
@@ -176,7 +177,7 @@ module _ (β B : ℕ) (ground : Ground β B) (rn : ℤ → ℤ) (law : Laws β B
         m = suc co.k
 
         next : (n : ℕ) → β ^ suc n ≡ β * β ^ n
-        next n = power_next β n
+        next n = pow-succ' β n
 
         finer : b.k < m
         finer = elim (cases_lt b.k m) [

@@ -5,9 +5,9 @@ use Rattle.std.proofs.Common.{mul-le-mul, div-add-mod', mul-one, div-one, arith}
 use native.Mathlib.Nat.{pow-zero, mod-one}
 use lib.IntN.{zero-*ℤ}
 use Rattle.std.proofs.lemmas.Bool.{cases_lt}
+use Rattle.std.proofs.lemmas.Nat.{same_from_place}
 use Rattle.whole.proofs.Comparisons.{size_zero}
 use Rattle.whole.proofs.Powers.{power_pos, power_le, power_order, power_split, power_parts, power_even, power_one}
-use Rattle.whole.proofs.Quotients.{same_quotient}
 use Rattle.rounding.specs.declared.Figure.{Figure}
 use Rattle.rounding.specs.Exact.{Exact, value, units}
 use Rattle.rounding.specs.Digits.{digits}
@@ -42,8 +42,8 @@ module _ (β p : ℕ) (even : β % 2 ≡ 0) (two : 2 ≤ β) (some : 2 ≤ p) wh
       (place_lo β p two one (β ^ l) T d w b place))
       (subst (λ (n : ℕ). T < n) (sym (power_parts β p l (p + l) refl)) (place_hi β p two one (β ^ l) T d w b place)) in
       let drop : digits β T - p ≡ l = omega (arith, long) in
-      let parts = same_quotient (β ^ l) (T / β ^ l) (T % β ^ l) d w (div-add-mod' T (β ^ l) ∙ place.is)
-      (mod-lt T (power_pos β l two)) place.w_lt in
+      let parts = same_from_place (T / β ^ l) (T % β ^ l) d w (β ^ l) (mod-lt T (power_pos β l two)) place.w_lt
+      (div-add-mod' T (β ^ l) ∙ place.is) in
       ap (λ (j : ℕ). quotient (β ^ j) T * β ^ j) drop
       ∙ ap (λ (s : ℕ). s * β ^ l) (ap₂ (λ (x y : ℕ). x + raise (β ^ l) x (2 * y)) parts.0 parts.1
       ∙ ap (λ (u : ℕ). d + u) (sym place.raised))

@@ -15,7 +15,7 @@ use Rattle.lanes.specs.Turning.{no_lane, full, far, strayed, lane_fault}
 -- a test that names a fault unless it holds
 passed : (b : Bool) (n : ℕ) → cond b None (Some n) ≡ None → b ≡ true
 passed true n h = refl
-passed false n h = absurd (let z : ◌≡◌ {A = ℕ} 0 1 = cc in omega arith)
+passed false n h = cc
 
 pub lane_there : (i : ℕ) → no_lane i ≡ None → i < 10
 lane_there i h = let t : ltb i 10 ≡ true = passed (ltb i 10) _ h in grind (arith, nat_tests)

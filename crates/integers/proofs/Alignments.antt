@@ -2,7 +2,8 @@
 use Rattle.std.proofs.Common.{◌≡◌, ℕ, ◌+◌, ◌-◌, ◌*◌, ◌/◌, ◌%◌, ◌^◌, ◌<◌, ◌≤◌, Bool, true, false, eqb, ◌⊎◌, ℤ}
 use Rattle.std.proofs.Common.{pos, ◌+ℤ◌, ◌-ℤ◌, nat_abs, ◌≤ℤ◌, sym, refl, ap, ◌∙◌, subst, ap₂, inl, inr}
 use Rattle.std.proofs.Common.{mul-le-mul_right, mod-lt, mul-le-mul_left, div-add-mod', mul-one, mul_left_comm, arith}
-use native.Mathlib.Nat.{pow-zero}
+use native.Mathlib.Nat.{pow-zero, zero-mul}
+use lib.IntN.{+ℤ_idr}
 use borrow.Author.Differences.{ints}
 use Rattle.std.specs.Int.{int_min}
 use Rattle.std.proofs.lemmas.Int.{clamps}
@@ -20,7 +21,7 @@ use Rattle.integers.specs.declared.terms.Term.{Term}
 use Rattle.integers.specs.Terms.{Truncation, IsAddend, worth, lifted, exact}
 use Rattle.integers.specs.Rounding.{nearest_figure}
 use Rattle.integers.specs.Sums.{rise, aligned_at, aligned_sum}
-use Rattle.integers.proofs.Truncations.{Stands, clash}
+use Rattle.integers.proofs.Truncations.{Stands}
 use Rattle.integers.proofs.Rises.{Rise, rise_of, below_double}
 use Rattle.integers.proofs.Joins.{Joined, joined}
 use Rattle.integers.proofs.Rounds.{nearest_rounds}
@@ -93,18 +94,15 @@ module _ (β p : ℕ) (kind : IsKind β p) (h l : Term) (le : l.exponent ≤ℤ 
     rest = 0;
     low = 0;
     is = ap (λ (m : ℕ). signed h.negative m +ℤ signed l.negative l.size)
-        (none h.size (β ^ nat_abs (h.exponent -ℤ l.exponent)) z)
+        (ap (λ (m : ℕ). m * β ^ nat_abs (h.exponent -ℤ l.exponent)) z ∙ zero-mul (β ^ nat_abs (h.exponent -ℤ l.exponent)))
         ∙ gone h.negative l.negative l.size ∙ ap (signed l.negative) (whole (β ^ 0) (pow-zero β));
     less = power_pos β 0 two;
-    place = stays l.exponent;
+    place = sym (+ℤ_idr l.exponent);
     none = λ _. refl;
-    some = λ e. clash e;
-    large = λ e. clash e;
+    some = λ e. cc;
+    large = λ e. cc;
   }
     where
-      none : (n E : ℕ) → n ≡ 0 → n * E ≡ 0
-      none n E e = omega (arith, ap (λ (m : ℕ). m * E) e)
-
       gone : (a b : Bool) (n : ℕ) → signed a 0 +ℤ signed b n ≡ signed b n
       gone true true n = omega (arith, ints)
       gone true false n = omega (arith, ints)
@@ -113,9 +111,6 @@ module _ (β p : ℕ) (kind : IsKind β p) (h l : Term) (le : l.exponent ≤ℤ 
 
       whole : (E : ℕ) → E ≡ 1 → l.size ≡ E * l.size + 0
       whole E e = omega (arith, ap (λ (m : ℕ). m * l.size) e)
-
-      stays : (e : ℤ) → e ≡ e +ℤ pos 0
-      stays e = omega (arith, ints)
 
   -- h is brought up by i digits, and what lies below is less than a unit there
   risen_stands : (i : ℕ) → Rise β p h.size (nat_abs (h.exponent -ℤ l.exponent)) i → l.size < β ^ (2 * p)
@@ -164,7 +159,7 @@ module _ (β p : ℕ) (kind : IsKind β p) (h l : Term) (le : l.exponent ≤ℤ 
 
       -- with something below, h was not brought all the way up, so that it is longer than l by a digit
       long : u.sticky ≡ true → (0 < l.size % K) ⊎ (l.size % K ≤ 0) → β ^ p ≤ u.term.size
-      long e (inr none) = clash (sym (j.exact (omega arith)) ∙ e)
+      long e (inr none) = cc (j.exact (omega arith))
       long e (inl some) = still_long β p h.size d i l.size u.term.size kind up short some j.near
 
   aligned_stands : h.size < β ^ (2 * p) → l.size < β ^ (2 * p)

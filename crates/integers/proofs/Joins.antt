@@ -10,7 +10,6 @@ use Rattle.integers.specs.declared.terms.Term.{Term}
 use Rattle.integers.specs.Terms.{Truncation, truncated}
 use Rattle.integers.specs.Rounding.{one_if}
 use Rattle.integers.specs.Sums.{joined_sum}
-use Rattle.integers.proofs.Truncations.{clash}
 
 -- in units of which K make one: K t and K above + below with their signs make K times u's size, and `low` more
 pub record Whole (K : ℕ) (t : Term) (other : Bool) (above below : ℕ) (u : Truncation) : Type 0 where
@@ -32,14 +31,14 @@ add_same false M N L h = omega (arith, ints)
 add_same true M N L h = omega (arith, ints)
 
 add_less : (a b : Bool) → beq a b ≡ false → (M N L : ℕ) → M ≡ N + L → signed a M +ℤ signed b N ≡ signed a L
-add_less false false e M N L h = clash (sym e)
-add_less true true e M N L h = clash (sym e)
+add_less false false e M N L h = cc
+add_less true true e M N L h = cc
 add_less true false e M N L h = omega (arith, ints)
 add_less false true e M N L h = omega (arith, ints)
 
 add_more : (a b : Bool) → beq a b ≡ false → (M N L : ℕ) → N ≡ M + L → signed a M +ℤ signed b N ≡ signed b L
-add_more false false e M N L h = clash (sym e)
-add_more true true e M N L h = clash (sym e)
+add_more false false e M N L h = cc
+add_more true true e M N L h = cc
 add_more true false e M N L h = omega (arith, ints)
 add_more false true e M N L h = omega (arith, ints)
 
@@ -89,7 +88,7 @@ module _ (t : Term) (other : Bool) (above below : ℕ) where
           (step K (t.size - above - 0) (omega arith));
       less = omega arith;
       none = λ _. refl;
-      some = λ f. clash f;
+      some = λ f. cc;
     };
     exact = λ _. refl;
     near = omega arith;
@@ -109,7 +108,7 @@ module _ (t : Term) (other : Bool) (above below : ℕ) where
           (K * (t.size - above - 1) + (K - below))
           (step K (t.size - above - 1) (K - below) (omega arith) (omega arith));
       less = omega arith;
-      none = λ f. clash (sym f);
+      none = λ f. cc;
       some = λ _. omega arith;
     };
     exact = λ f. absurd (omega arith);
@@ -130,8 +129,8 @@ module _ (t : Term) (other : Bool) (above below : ℕ) where
       alike : (a b : Bool) → beq a b ≡ true → a ≡ b
       alike false false e = refl
       alike true true e = refl
-      alike true false e = clash e
-      alike false true e = clash e
+      alike true false e = cc
+      alike false true e = cc
 
       less : beq t.negative other ≡ false → above < t.size → (sticky : Bool) → not (eqb below 0) ≡ sticky
           → Joined t other above below (truncated t.negative (t.size - above - one_if sticky) t.exponent sticky)

@@ -2,7 +2,8 @@
 use Rattle.std.proofs.Common.{◌≡◌, ℕ, zero, suc, ◌+◌, ◌-◌, ◌*◌, ◌/◌, ◌%◌, ◌^◌, ◌<◌, ◌≤◌, Bool, true, false, cond, eqb}
 use Rattle.std.proofs.Common.{leb, ℤ, pos, ◌+ℤ◌, ◌-ℤ◌, nat_abs, ◌≤ℤ◌, sym, refl, ap, ◌∙◌, subst, ap₂}
 use Rattle.std.proofs.Common.{mul-le-mul, mul-le-mul_left, mul-one, arith}
-use native.Mathlib.Nat.{pow-zero}
+use native.Mathlib.Nat.{pow-zero, add-zero}
+use lib.Signed.{≤ℤ_refl}
 use borrow.Author.Differences.{ints}
 use Rattle.std.proofs.lemmas.Bool.{cond_both}
 use Rattle.std.proofs.lemmas.Bool.Decides.{nat_tests}
@@ -86,7 +87,7 @@ module _ (β p : ℕ) (kind : IsKind β p) (x : Exact) (t : Truncation) (s : Sta
         raised = sym (raise_less K N (2 * 0) (omega (arith, K_pos)));
       } in
       sym (rounded_of β p two one_p x v s.rest N 0 0 some (below x.e i) (near x.e d l.some le) place
-      ∙ ap₂ (λ (b : Bool) (m : ℕ). carried β p b m (v +ℤ pos s.rest)) (sign_is some) (idr N)
+      ∙ ap₂ (λ (b : Bool) (m : ℕ). carried β p b m (v +ℤ pos s.rest)) (sign_is some) (add-zero N)
       ∙ ap (λ (q : ℤ). carried β p t.term.negative N q) (level x.e i s.rest t.term.exponent s.place))
     where
       under : (E P : ℕ) → 1 ≤ E → n * E < P → n < P
@@ -109,9 +110,6 @@ module _ (β p : ℕ) (kind : IsKind β p) (x : Exact) (t : Truncation) (s : Sta
 
       turn : (K n E : ℕ) → K * n * E ≡ n * E * K + 0
       turn K n E = omega arith
-
-      idr : (a : ℕ) → a + 0 ≡ a
-      idr a = omega arith
 
       level : (e : ℤ) (i r : ℕ) (m : ℤ) → m ≡ e +ℤ pos r → e -ℤ pos i +ℤ pos r ≡ m -ℤ pos i
       level e i r m h = omega (arith, ints)
@@ -139,17 +137,14 @@ module _ (β p : ℕ) (kind : IsKind β p) (x : Exact) (t : Truncation) (s : Sta
             w_lt = h.rem;
             d_lo = h.lo;
             d_hi = h.hi;
-            raised = ap (raise (β ^ k) q) (idr (2 * a));
+            raised = ap (raise (β ^ k) q) (add-zero (2 * a));
           }) in
           subst (λ (l : ℕ). Placed (β ^ (p - 1)) (β ^ p) (K * β ^ k) (K * n + l) q (K * a + l)
           (raise (β ^ k) q (2 * a + 0))) (sym (s.none e))
           (subst (λ (m : ℕ). Placed (β ^ (p - 1)) (β ^ p) (K * β ^ k) m q (K * a + 0) (raise (β ^ k) q (2 * a + 0)))
-          (sym (idr (K * n)))
+          (sym (add-zero (K * n)))
           (subst (λ (w : ℕ). Placed (β ^ (p - 1)) (β ^ p) (K * β ^ k) (K * n) q w (raise (β ^ k) q (2 * a + 0)))
-          (sym (idr (K * a))) plain))
-        where
-          idr : (a : ℕ) → a + 0 ≡ a
-          idr a = omega arith
+          (sym (add-zero (K * a))) plain))
 
   -- a longer number is rounded at its p-th digit
   shortened_rounds : (d : ℕ) → Length β n d → p < d → shortened_figure β p t (d - p) ≡ rounded β p x
@@ -166,16 +161,13 @@ module _ (β p : ℕ) (kind : IsKind β p) (x : Exact) (t : Truncation) (s : Sta
       ∙ ap (λ (m : ℕ). nat_abs x.m * m) (pow-zero β) ∙ mul-one (nat_abs x.m)) in
       let place = subst (λ (V : ℕ). Placed (β ^ (p - 1)) (β ^ p) V (nat_abs x.m * β ^ nat_abs (x.e -ℤ x.e)) q w b)
       (sym unit) (subst (λ (m : ℕ). Placed (β ^ (p - 1)) (β ^ p) (K * β ^ k) m q w b) there (kept_place k h)) in
-      sym (rounded_of β p two one_p x x.e (s.rest + k) q w b some (stays x.e) (near x.e) place
+      sym (rounded_of β p two one_p x x.e (s.rest + k) q w b some (≤ℤ_refl x.e) (near x.e) place
       ∙ ap (λ (g : Bool). carried β p g (q + b) (x.e +ℤ pos (s.rest + k))) (sign_is some)
       ∙ ap (λ (e : ℤ). carried β p t.term.negative (q + b) e)
       (level x.e k s.rest t.term.exponent s.place))
     where
       big : (K U m : ℕ) → m ≡ K * n + s.low → U ≤ n → 1 ≤ U → 1 ≤ K → 0 < m
       big K U m e u z h = let some : 1 ≤ n = omega arith in omega (arith, mul-le-mul h some)
-
-      stays : (e : ℤ) → e ≤ℤ e
-      stays e = omega (arith, ints)
 
       near : (e : ℤ) → (e -ℤ pos (p - 1)) ≤ℤ e
       near e = omega (arith, ints)

@@ -5,11 +5,12 @@ use native.Mathlib.Nat.{pow-le-pow_left}
 use borrow.Author.Differences.{ints}
 use Rattle.std.specs.Int.{int_min}
 use Rattle.std.proofs.lemmas.Int.{clamps}
+use Rattle.std.proofs.lemmas.Int.{unsigned_abs-mul}
+use native.Mathlib.Nat.{le_of_mul-le-mul_right}
 use Rattle.whole.proofs.Comparisons.{≤ℤ-trans}
 use Rattle.whole.proofs.Identities.{identity, reads}
-use Rattle.whole.proofs.Integers.{nat_abs_mul, neg_left}
+use Rattle.whole.proofs.Integers.{neg_left}
 use Rattle.whole.proofs.Powers.{power_pos}
-use Rattle.whole.proofs.Quotients.{cancel_le}
 use Rattle.rounding.specs.declared.Figure.{Figure}
 use Rattle.rounding.specs.Exact.{Exact, value, product, units, distance}
 use Rattle.rounding.specs.Errors.{Within}
@@ -78,14 +79,14 @@ coarser β two j k w z S T jk kr ki kz fine =
     (size_finer (real_part z) kz) (size_finer (imaginary_part z) kz) fine
   where
     size_finer : (x : Exact) → k ≤ℤ x.e → nat_abs (units β j x) ≡ nat_abs (units β k x) * β ^ nat_abs (k -ℤ j)
-    size_finer x kx = ap nat_abs (units_finer β j k x jk kx) ∙ nat_abs_mul (units β k x) (pos (β ^ nat_abs (k -ℤ j)))
+    size_finer x kx = ap nat_abs (units_finer β j k x jk kx) ∙ unsigned_abs-mul (units β k x) (pos (β ^ nat_abs (k -ℤ j)))
 
     plain : (a b u v g : ℕ) → 1 ≤ g
         → AtMost S (a * g * (a * g) + b * g * (b * g)) T (u * g * (u * g) + v * g * (v * g))
         → AtMost S (a * a + b * b) T (u * u + v * v)
     plain a b u v g some h =
         let square : 1 * 1 ≤ g * g = mul-le-mul some some in
-        cancel_le ((a * a + b * b) * (S * S)) (T * T * (u * u + v * v)) (g * g) (omega arith) (omega arith)
+        le_of_mul-le-mul_right {k = g * g} (omega arith) (omega arith)
 
     cancel : (a b u v a' b' u' v' g : ℕ) → 1 ≤ g → a' ≡ a * g → b' ≡ b * g → u' ≡ u * g → v' ≡ v * g
         → AtMost S (a' * a' + b' * b') T (u' * u' + v' * v') → AtMost S (a * a + b * b) T (u * u + v * v)

@@ -3,6 +3,7 @@ use Rattle.std.proofs.Common.{◌≡◌, ℕ, zero, suc, ◌-◌, ◌*◌, ◌/�
 use Rattle.std.proofs.Common.{sym, refl, ap, subst, inl, inr, le_refl, div-lt_iff_lt-mul, pow-suc, le-div_iff_mul-le}
 use Rattle.std.proofs.Common.{arith, ltb→lt, nltb→le}
 use native.Mathlib.Nat.{pow-zero, div-lt_self}
+use Rattle.std.proofs.lemmas.Bool.{ltb-true, ltb-false}
 use Rattle.whole.proofs.Powers.{power_pos, power_order, power_one}
 use Rattle.rounding.specs.Digits.{digits_within, digits}
 
@@ -39,9 +40,9 @@ module _ (β : ℕ) (two : 2 ≤ β) where
     where
       go : ((n : ℕ) → n ≤ t → Length β n (digits_within t β n)) → (b : Bool) → ltb n β ≡ b
           → Length β n (elim b [ true ↦ 1 | false ↦ suc (digits_within t β (n / β)) ])
-      go rest true e = single n (ltb→lt n β (subst T (sym e) tt))
+      go rest true e = single n (ltb-true n β e)
       go rest false e =
-          let past : β ≤ n = nltb→le n β (subst (λ (b : Bool). T (not b)) (sym e) tt) in
+          let past : β ≤ n = ltb-false n β e in
           let fewer : n / β < n = div-lt_self (omega arith) two in
           longer n (digits_within t β (n / β)) past (rest (n / β) (omega arith))
 

@@ -4,7 +4,7 @@ use Rattle.std.proofs.Common.{nat_abs, ◌≤ℤ◌, sym, refl, ap, ◌∙◌, s
 use Rattle.std.proofs.Common.{arith}
 use borrow.Author.Differences.{ints}
 use Rattle.std.proofs.lemmas.Bool.Decides.{nat_tests}
-use Rattle.whole.proofs.Integers.{nat_abs_mul}
+use Rattle.std.proofs.lemmas.Int.{unsigned_abs-mul}
 use Rattle.whole.proofs.Powers.{power_pos, power_parts}
 use Rattle.rounding.specs.Exact.{Exact, units}
 use Rattle.rounding.specs.Digits.{digits}
@@ -29,7 +29,7 @@ ulp_full β p x h =
 
 -- one unit of β^e, in units of β^k
 pub units_one : (β : ℕ) (k e : ℤ) → nat_abs (units β k (record { m = pos 1; e = e })) ≡ β ^ nat_abs (e -ℤ k)
-units_one β k e = nat_abs_mul (pos 1) (pos (β ^ nat_abs (e -ℤ k))) ∙ omega arith
+units_one β k e = unsigned_abs-mul (pos 1) (pos (β ^ nat_abs (e -ℤ k))) ∙ omega arith
 
 module _ (β p : ℕ) (two : 2 ≤ β) (some : 1 ≤ p) (x : Exact) (full : 0 < nat_abs x.m) where
   -- |x| has D digits, so in units of β^k it has D + i, which is p + l
@@ -49,7 +49,7 @@ module _ (β p : ℕ) (two : 2 ≤ β) (some : 1 ≤ p) (x : Exact) (full : 0 < 
 
     size : nat_abs (units β k x) ≡ nat_abs x.m * β ^ i
     unfolding i
-    size = nat_abs_mul x.m (pos (β ^ nat_abs (x.e -ℤ k)))
+    size = unsigned_abs-mul x.m (pos (β ^ nat_abs (x.e -ℤ k)))
 
     pub least : β ^ (p - 1) * nat_abs (units β k (place β p x)) ≤ nat_abs (units β k x)
     unfolding D i l

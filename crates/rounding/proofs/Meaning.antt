@@ -1,15 +1,16 @@
 -- The theorem above `rounded`: its figure is nearest, ties to even, and the only one that is.
 use Rattle.std.proofs.Common.{◌≡◌, ℕ, ◌+◌, ◌-◌, ◌*◌, ◌%◌, ◌^◌, ◌<◌, ◌≤◌, ◌⊎◌, ℤ, pos, ◌-ℤ◌, ◌*ℤ◌, nat_abs, ◌≤ℤ◌, sym}
 use Rattle.std.proofs.Common.{refl, ap, ◌∙◌, subst, ap₂, inl, inr, zero-le, mul-le-mul, arith}
-use lib.IntN.{zero-*ℤ}
+use lib.IntN.{zero-*ℤ, +ℤ_idr}
+use lib.Signed.{≤ℤ_refl}
 use borrow.Author.Differences.{ints}
 use Rattle.std.specs.Int.{int_min}
 use Rattle.std.proofs.lemmas.Int.{clamps}
 use Rattle.std.proofs.lemmas.Bool.{cases_lt}
+use native.Mathlib.Nat.{le_of_mul-le-mul_right}
 use Rattle.whole.proofs.Comparisons.{≤ℤ-trans, size_zero}
 use Rattle.whole.proofs.Distances.{gap}
 use Rattle.whole.proofs.Powers.{power_pos, power_split, power_even}
-use Rattle.whole.proofs.Quotients.{cancel_le}
 use Rattle.rounding.specs.declared.Figure.{Figure}
 use Rattle.rounding.specs.Exact.{Exact, value, units, distance}
 use Rattle.rounding.specs.Rounding.{zero_figure, negative, signed, rounded}
@@ -163,12 +164,12 @@ module _ (β p : ℕ) (even : β % 2 ≡ 0) (two : 2 ≤ β) (some : 2 ≤ p) wh
     best g n k c =
         let l = lower k (x.e -ℤ pos (p - 1)) in
         let m : ℤ = int_min k (x.e -ℤ pos (p - 1)) in
-        cancel_le (distance β k (value (rounded β p x)) x) (distance β k (value g) x) (β ^ nat_abs (k -ℤ m))
-        (power_pos β (nat_abs (k -ℤ m)) two)
+        le_of_mul-le-mul_right {k = β ^ nat_abs (k -ℤ m)}
         (subst (λ (a : ℕ). a ≤ distance β k (value g) x * β ^ nat_abs (k -ℤ m))
         (distance_finer β m k (value (rounded β p x)) x l.0 c.1 c.0)
         (subst (λ (a : ℕ). distance β m (value (rounded β p x)) x ≤ a)
         (distance_finer β m k (value g) x l.0 c.2 c.0) (best_fine g n m l.1)))
+        (power_pos β (nat_abs (k -ℤ m)) two)
 
     outcome : (g : Figure) → Normal β p g → (k : ℤ) → Common k x (rounded β p x) g
         → distance β k (value (rounded β p x)) x ≡ distance β k (value g) x → Outcome g
@@ -183,15 +184,12 @@ module _ (β p : ℕ) (even : β % 2 ≡ 0) (two : 2 ≤ β) (some : 2 ≤ p) wh
     full_nearest : Nearest β p x (rounded β p x)
     full_nearest =
         let k : ℤ = x.e -ℤ pos (p - 1) in
-        let s = seen β p even two some x full k (same k) in
+        let s = seen β p even two some x full k (≤ℤ_refl k) in
         record {
           normal = inr (s.least, s.most);
           best = best;
           even = λ g n k c e. elim (outcome g n k c e) [ inl h ↦ inl h | inr h ↦ inr h.0 ];
         }
-      where
-        same : (k : ℤ) → k ≤ℤ k
-        same k = omega (arith, ints)
 
     -- two nearest figures would both be even neighbours
     full_only : (f : Figure) → Nearest β p x f → f ≡ rounded β p x
@@ -216,10 +214,8 @@ module _ (β p : ℕ) (even : β % 2 ≡ 0) (two : 2 ≤ β) (some : 2 ≤ p) wh
         ap (λ (s : ℤ). s *ℤ pos (β ^ nat_abs (y.e -ℤ k))) e ∙ zero-*ℤ (pos (β ^ nat_abs (y.e -ℤ k)))
 
     from_zero : (g : Figure) (k : ℤ) → distance β k (value g) x ≡ nat_abs (units β k (value g))
-    from_zero g k = ap (λ (u : ℤ). nat_abs (units β k (value g) -ℤ u)) (no_units x none k) ∙ minus (units β k (value g))
-      where
-        minus : (u : ℤ) → nat_abs (u -ℤ pos 0) ≡ nat_abs u
-        minus u = omega (arith, ints)
+    from_zero g k =
+        ap (λ (u : ℤ). nat_abs (units β k (value g) -ℤ u)) (no_units x none k) ∙ ap nat_abs (+ℤ_idr (units β k (value g)))
 
     zero_off : (k : ℤ) → distance β k (value zero_figure) x ≡ 0
     zero_off k = from_zero zero_figure k ∙ ap nat_abs (no_units (value zero_figure) refl k)

@@ -3,8 +3,8 @@ use Rattle.std.proofs.Common.{◌≡◌, ℕ, suc, ◌+◌, ◌-◌, ◌*◌, �
 use Rattle.std.proofs.Common.{subst, ap₂, inl, inr, mul-le-mul_right, mul-le-mul_left, pow-suc, arith}
 use Rattle.std.proofs.lemmas.Bool.{cases_lt}
 use Rattle.std.proofs.lemmas.Bool.Decides.{nat_tests}
+use Rattle.std.proofs.lemmas.Nat.{same_from_place}
 use Rattle.whole.proofs.Powers.{power_le, power_split}
-use Rattle.whole.proofs.Quotients.{same_quotient}
 use Rattle.rounding.specs.Rounding.{raise}
 
 -- T = d V + w with B ≤ d < P, and T is rounded to d + b units
@@ -108,6 +108,6 @@ module _ (β p : ℕ) (two : 2 ≤ β) (some : 1 ≤ p) where
       (place_lo (β ^ j) T e v c m) (place_hi (β ^ j) T e v c m) in
       let m' : Placed (β ^ (p - 1)) (β ^ p) (β ^ i) T e v c =
       subst (λ (k : ℕ). Placed (β ^ (p - 1)) (β ^ p) (β ^ k) T e v c) (sym ij) m in
-      let q = same_quotient (β ^ i) d w e v (sym l.is ∙ m'.is) l.w_lt m'.w_lt in
+      let q = same_from_place d w e v (β ^ i) l.w_lt m'.w_lt (sym l.is ∙ m'.is) in
       let bc : b ≡ c = l.raised ∙ ap₂ (λ (x y : ℕ). raise (β ^ i) x (2 * y)) q.0 q.1 ∙ sym m'.raised in
       (ij, ap₂ (λ (x y : ℕ). x + y) q.0 bc)

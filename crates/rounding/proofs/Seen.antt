@@ -1,13 +1,13 @@
 -- A number that is not zero and its rounded figure, counted in any unit as fine as the widened digits.
-use Rattle.std.proofs.Common.{◌≡◌, ℕ, ◌+◌, ◌-◌, ◌*◌, ◌%◌, ◌^◌, ◌<◌, ◌≤◌, Bool, cond, ◌⊎◌, ℤ, pos, ◌+ℤ◌, ◌-ℤ◌, ◌*ℤ◌}
+use Rattle.std.proofs.Common.{◌≡◌, ℕ, suc, ◌+◌, ◌-◌, ◌*◌, ◌%◌, ◌^◌, ◌<◌, ◌≤◌, Bool, cond, ◌⊎◌, ℤ, pos, ◌+ℤ◌, ◌-ℤ◌, ◌*ℤ◌}
 use Rattle.std.proofs.Common.{nat_abs, ◌≤ℤ◌, sym, refl, ap, ◌∙◌, subst, inl, inr, mul-le-mul_right, mul_left_comm}
 use Rattle.std.proofs.Common.{arith}
 use borrow.Author.Differences.{ints}
+use Rattle.std.proofs.lemmas.Bool.Decides.{leb_tells}
 use Rattle.whole.proofs.Powers.{power_pos, power_split, power_parts, power_even, power_one}
 use Rattle.rounding.specs.declared.Figure.{Figure}
 use Rattle.rounding.specs.Exact.{Exact, value, units}
 use Rattle.rounding.specs.Rounding.{negative, signed, carried, widened, rounded}
-use Rattle.rounding.proofs.Tests.{by_ltb}
 use Rattle.rounding.proofs.Places.{Placed, raise_few, scaled_place}
 use Rattle.rounding.proofs.Computed.{Found, found}
 use Rattle.rounding.proofs.Signs.{signed_size, signed_times}
@@ -26,9 +26,10 @@ pub carried_cases : (β p : ℕ) (neg : Bool) (s : ℕ) (q : ℤ) (f : Figure) �
 carried_cases β p neg s q f e =
     let pick : Bool → Figure = λ b. cond b (record { s = signed neg s; q = q })
     (record { s = signed neg (β ^ (p - 1)); q = q +ℤ pos 1 }) in
-    by_ltb (Plain β p neg s q f ⊎ Carry β p neg s q f) s (β ^ p)
-    (λ l t. inl (record { fits = l; is = e ∙ ap pick t }))
-    (λ l t. inr (record { full = l; is = e ∙ ap pick t }))
+    elim (leb_tells (suc s) (β ^ p)) [
+      | inl h ↦ inl (record { fits = omega (arith, h.1); is = e ∙ ap pick h.0 })
+      | inr h ↦ inr (record { full = omega (arith, h.1); is = e ∙ ap pick h.0 })
+    ]
 
 -- in units of β^k, x is T and its figure f is (d + b) β^l
 pub record Seen (β p : ℕ) (x : Exact) (f : Figure) (k : ℤ) : Type 0 where

@@ -5,7 +5,8 @@ use lib.IntN.{+ℤ_comm}
 use borrow.Author.Differences.{ints}
 use Rattle.std.specs.Int.{int_min}
 use Rattle.std.proofs.lemmas.Int.{clamps}
-use Rattle.whole.proofs.Integers.{*ℤ-assoc, +ℤ-*ℤ, neg_left, nat_abs_mul}
+use Rattle.std.proofs.lemmas.Int.{unsigned_abs-mul}
+use Rattle.whole.proofs.Integers.{*ℤ-assoc, +ℤ-*ℤ, neg_left}
 use Rattle.rounding.specs.declared.Figure.{Figure}
 use Rattle.rounding.specs.Exact.{Exact, value, units, plus, distance}
 
@@ -22,7 +23,7 @@ units_finer β k l x kl lx =
 times_apart : (a b : ℤ) (E : ℕ) → nat_abs (a *ℤ pos E -ℤ b *ℤ pos E) ≡ nat_abs (a -ℤ b) * E
 times_apart a b E =
     ap nat_abs (ap (λ (z : ℤ). a *ℤ pos E +ℤ z) (sym (neg_left b (pos E))) ∙ sym (+ℤ-*ℤ a (neg_ℤ b) (pos E)))
-    ∙ nat_abs_mul (a -ℤ b) (pos E)
+    ∙ unsigned_abs-mul (a -ℤ b) (pos E)
 
 pub distance_finer : (β : ℕ) (k l : ℤ) (x y : Exact) → k ≤ℤ l → l ≤ℤ x.e → l ≤ℤ y.e
     → distance β k x y ≡ distance β l x y * β ^ nat_abs (l -ℤ k)
@@ -33,7 +34,7 @@ distance_finer β k l x y kl lx ly =
 -- the size of a figure in units of β^k
 pub units_size : (β : ℕ) (g : Figure) (k : ℤ)
     → nat_abs (units β k (value g)) ≡ nat_abs g.s * β ^ nat_abs (g.q -ℤ k)
-units_size β g k = nat_abs_mul g.s (pos (β ^ nat_abs (g.q -ℤ k)))
+units_size β g k = unsigned_abs-mul g.s (pos (β ^ nat_abs (g.q -ℤ k)))
 
 pub plus_comm : (β : ℕ) (x y : Exact) → plus β x y ≡ plus β y x
 plus_comm β x y =

@@ -1,4 +1,4 @@
--- Laws of ℤ that the library lacks: associativity and distributivity of the product, and sizes of products.
+-- Laws of ℤ that the library lacks: associativity and distributivity of the product, and opposites.
 use Rattle.std.proofs.Common.{◌≡◌, ℕ, suc, ◌+◌, ◌*◌, ℤ, pos, negsuc, ◌+ℤ◌, ◌*ℤ◌, neg_ℤ, nat_abs, sym, refl, ap, ◌∙◌}
 use Rattle.std.proofs.Common.{ap₂, arith}
 use borrow.Author.Differences.{up, down, same_in, sum_is_lem, neg_is, product_is, ints}
@@ -45,9 +45,3 @@ neg_left a b = ap (λ (z : ℤ). z *ℤ b) (sym (minus_one a)) ∙ *ℤ-assoc (n
 
 pub nat_abs_neg : (z : ℤ) → nat_abs (neg_ℤ z) ≡ nat_abs z
 nat_abs_neg z = omega (arith, ints)
-
-pub nat_abs_mul : (a b : ℤ) → nat_abs (a *ℤ b) ≡ nat_abs a * nat_abs b
-nat_abs_mul (pos a) (pos b) = refl
-nat_abs_mul (pos a) (negsuc b) = nat_abs_neg (pos (a * suc b))
-nat_abs_mul (negsuc a) (pos b) = nat_abs_neg (pos (suc a * b))
-nat_abs_mul (negsuc a) (negsuc b) = refl
