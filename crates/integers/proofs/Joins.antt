@@ -1,5 +1,5 @@
 -- What joining two sizes by their signs says of the exact sum, in any units fine enough for what lies below.
-use Rattle.std.proofs.Common.{◌≡◌, ℕ, ◌+◌, ◌-◌, ◌*◌, ◌<◌, ◌≤◌, Bool, true, false, not, eqb, ltb, ◌+ℤ◌, sym}
+use Rattle.std.proofs.Common.{◌≡◌, ℕ, ◌+◌, ◌-◌, ◌*◌, ◌<◌, ◌≤◌, Bool, true, false, not, ◌==◌, nat_lt, ◌+ℤ◌, sym}
 use Rattle.std.proofs.Common.{refl, ap, subst, arith}
 use mathlib.Core.Bool.{beq}
 use borrow.Author.Differences.{ints}
@@ -44,7 +44,7 @@ add_more false true e M N L h = omega (arith, ints)
 
 module _ (t : Term) (other : Bool) (above below : ℕ) where
   same : t.negative ≡ other
-      → Joined t other above below (truncated other (t.size + above) t.exponent (not (eqb below 0)))
+      → Joined t other above below (truncated other (t.size + above) t.exponent (not (below == 0)))
   same e = record {
     sum = λ K h. record {
       low = below;
@@ -61,7 +61,7 @@ module _ (t : Term) (other : Bool) (above below : ℕ) where
   }
 
   past : beq t.negative other ≡ false → t.size ≤ above
-      → Joined t other above below (truncated other (above - t.size) t.exponent (not (eqb below 0)))
+      → Joined t other above below (truncated other (above - t.size) t.exponent (not (below == 0)))
   past e le = record {
     sum = λ K h. record {
       low = below;
@@ -122,8 +122,8 @@ module _ (t : Term) (other : Bool) (above below : ℕ) where
   pub joined : Joined t other above below (joined_sum t other above below)
   joined =
       cond_both (beq t.negative other) _ _ (Joined t other above below) (λ e. same (alike t.negative other e))
-      (λ e. cond_both (ltb above t.size) _ _ (Joined t other above below)
-      (λ lt. less e (grind (arith, nat_tests)) (not (eqb below 0)) refl)
+      (λ e. cond_both (nat_lt above t.size) _ _ (Joined t other above below)
+      (λ lt. less e (grind (arith, nat_tests)) (not (below == 0)) refl)
       (λ ge. past e (grind (arith, nat_tests))))
     where
       alike : (a b : Bool) → beq a b ≡ true → a ≡ b
@@ -132,7 +132,7 @@ module _ (t : Term) (other : Bool) (above below : ℕ) where
       alike true false e = cc
       alike false true e = cc
 
-      less : beq t.negative other ≡ false → above < t.size → (sticky : Bool) → not (eqb below 0) ≡ sticky
+      less : beq t.negative other ≡ false → above < t.size → (sticky : Bool) → not (below == 0) ≡ sticky
           → Joined t other above below (truncated t.negative (t.size - above - one_if sticky) t.exponent sticky)
       less e lt true f = borrowed e lt (grind (arith, nat_tests))
       less e lt false f = even e lt (grind (arith, nat_tests))

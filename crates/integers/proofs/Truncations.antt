@@ -1,8 +1,7 @@
 -- What a truncated number says of the exact number that it stands for.
-use Rattle.std.proofs.Common.{◌≡◌, ℕ, ◌+◌, ◌*◌, ◌^◌, ◌<◌, ◌≤◌, true, false, T, ℤ, pos, ◌+ℤ◌, sym, refl, ap, subst}
+use Rattle.std.proofs.Common.{◌≡◌, ℕ, ◌+◌, ◌*◌, ◌^◌, ◌<◌, ◌≤◌, true, false, pos, ◌+ℤ◌, sym, refl, ap}
 use Rattle.std.proofs.Common.{arith}
 use native.Mathlib.Nat.{pow-zero}
-use borrow.Author.Differences.{ints}
 use lib.IntN.{+ℤ_idr}
 use Rattle.whole.proofs.Powers.{power_pos}
 use Rattle.rounding.specs.Exact.{Exact}

@@ -1,8 +1,8 @@
 -- How powers that outgrow a word divide what a word holds, and what the loop that counts digits keeps.
 use Rattle.std.proofs.Common.{◌≡◌, ℕ, ◌+◌, ◌-◌, ◌*◌, ◌/◌, ◌%◌, ◌^◌, ◌<◌, ◌≤◌, ◌⊎◌, sym, ap, ◌∙◌, subst, inl}
-use Rattle.std.proofs.Common.{inr, mod-eq_of_lt, mul_comm, div-lt_iff_lt-mul, mul-le-mul_left, pow-suc, div-add-mod'}
+use Rattle.std.proofs.Common.{inr, mul_comm, div-lt_iff_lt-mul, mul-le-mul_left, pow-suc}
 use Rattle.std.proofs.Common.{le-div_iff_mul-le, add-one, arith}
-use native.Mathlib.Nat.{pow-zero, mul-mod_left, mul_assoc}
+use native.Mathlib.Nat.{pow-zero, mul-mod_left, mul_assoc, add-sub_cancel}
 use Rattle.std.proofs.lemmas.Bool.{cases_lt}
 use Rattle.rounding.specs.Digits.{digits}
 use Rattle.rounding.proofs.Digits.{digits_zero, digits_is}
@@ -36,13 +36,10 @@ pub counting_more : (β n power count : ℕ) → 2 ≤ β → n < 2 ^ 64 → pow
 counting_more β n power count two word h c = record {
   some = omega arith;
   few = omega (arith, power_below β count 64 two (omega (arith, next, past)));
-  is = next ∙ ap (λ (m : ℕ). β ^ m) (back count);
+  is = next ∙ ap (λ (m : ℕ). β ^ m) (sym (add-sub_cancel count 1));
   low = inr past;
 }
   where
-    back : (k : ℕ) → k ≡ k + 1 - 1
-    back k = omega arith
-
     past : power * β ≤ n
     past = (le-div_iff_mul-le (omega arith)).0 h
 
@@ -77,8 +74,5 @@ counting_end β n power count two h c = go c.low (cases_lt 0 n)
 -- at radix 2 the logarithm tells the digits
 pub binary_digits : (n k : ℕ) → 2 ^ k ≤ n → n < 2 * 2 ^ k → k + 1 ≡ digits 2 n
 binary_digits n k low high =
-    sym (digits_is 2 n (k + 1) (omega arith) (omega arith) (subst (λ (m : ℕ). 2 ^ m ≤ n) (back k) low)
+    sym (digits_is 2 n (k + 1) (omega arith) (omega arith) (subst (λ (m : ℕ). 2 ^ m ≤ n) (sym (add-sub_cancel k 1)) low)
     (omega (arith, high, pow-suc 2 k, ap (λ (m : ℕ). 2 ^ m) (add-one k))))
-  where
-    back : (k : ℕ) → k ≡ k + 1 - 1
-    back k = omega arith

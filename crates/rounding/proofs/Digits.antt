@@ -1,7 +1,7 @@
 -- A number n > 0 has the one number of digits d with β^(d-1) ≤ n < β^d.
-use Rattle.std.proofs.Common.{◌≡◌, ℕ, zero, suc, ◌-◌, ◌*◌, ◌/◌, ◌^◌, ◌<◌, ◌≤◌, Bool, true, false, not, T, ltb, ◌⊎◌}
+use Rattle.std.proofs.Common.{◌≡◌, ℕ, zero, suc, ◌-◌, ◌*◌, ◌/◌, ◌^◌, ◌<◌, ◌≤◌, Bool, true, false, nat_lt, ◌⊎◌}
 use Rattle.std.proofs.Common.{sym, refl, ap, subst, inl, inr, le_refl, div-lt_iff_lt-mul, pow-suc, le-div_iff_mul-le}
-use Rattle.std.proofs.Common.{arith, ltb→lt, nltb→le}
+use Rattle.std.proofs.Common.{arith}
 use native.Mathlib.Nat.{pow-zero, div-lt_self}
 use Rattle.std.proofs.lemmas.Bool.{ltb-true, ltb-false}
 use Rattle.whole.proofs.Powers.{power_pos, power_order, power_one}
@@ -36,9 +36,9 @@ module _ (β : ℕ) (two : 2 ≤ β) where
 
   within_length : (t n : ℕ) → n ≤ t → Length β n (digits_within t β n)
   within_length zero n h = single n (omega arith)
-  within_length (suc t) n h = go (within_length t) (ltb n β) refl
+  within_length (suc t) n h = go (within_length t) (nat_lt n β) refl
     where
-      go : ((n : ℕ) → n ≤ t → Length β n (digits_within t β n)) → (b : Bool) → ltb n β ≡ b
+      go : ((n : ℕ) → n ≤ t → Length β n (digits_within t β n)) → (b : Bool) → nat_lt n β ≡ b
           → Length β n (elim b [ true ↦ 1 | false ↦ suc (digits_within t β (n / β)) ])
       go rest true e = single n (ltb-true n β e)
       go rest false e =

@@ -1,5 +1,6 @@
 -- Laws of ℤ that the library lacks: associativity and distributivity of the product, and opposites.
-use Rattle.std.proofs.Common.{◌≡◌, ℕ, suc, ◌+◌, ◌*◌, ℤ, pos, negsuc, ◌+ℤ◌, ◌*ℤ◌, neg_ℤ, nat_abs, sym, refl, ap, ◌∙◌}
+use Rattle.std.proofs.Common.{◌≡◌, ℕ, ◌+◌, ◌*◌, ℤ, pos, negsuc, ◌+ℤ◌, ◌*ℤ◌, neg_ℤ, unsigned_abs, sym, ap}
+use Rattle.std.proofs.Common.{◌∙◌}
 use Rattle.std.proofs.Common.{ap₂, arith}
 use borrow.Author.Differences.{up, down, same_in, sum_is_lem, neg_is, product_is, ints}
 use lib.IntN.{*ℤ_comm}
@@ -43,5 +44,5 @@ minus_one a = same_in _ _ (simp (up_product, down_product) (omega (arith, neg_is
 pub neg_left : (a b : ℤ) → neg_ℤ a *ℤ b ≡ neg_ℤ (a *ℤ b)
 neg_left a b = ap (λ (z : ℤ). z *ℤ b) (sym (minus_one a)) ∙ *ℤ-assoc (negsuc 0) a b ∙ minus_one (a *ℤ b)
 
-pub nat_abs_neg : (z : ℤ) → nat_abs (neg_ℤ z) ≡ nat_abs z
-nat_abs_neg z = omega (arith, ints)
+pub unsigned_abs_neg : (z : ℤ) → unsigned_abs (neg_ℤ z) ≡ unsigned_abs z
+unsigned_abs_neg z = omega (arith, ints)
