@@ -4,9 +4,8 @@ use Rattle.std.proofs.Common.{unsigned_abs, ◌≤ℤ◌, sym, ap, ◌∙◌, su
 use Rattle.std.proofs.Common.{mul-le-mul_left, pow-suc, arith}
 use borrow.Author.Differences.{ints}
 use Rattle.std.specs.Int.{int_min}
-use Rattle.std.proofs.lemmas.Int.{clamps}
+use Rattle.std.proofs.lemmas.Int.{clamps, unsigned_abs-mul}
 use Rattle.std.proofs.lemmas.Bool.{cases_lt}
-use Rattle.std.proofs.lemmas.Int.{unsigned_abs-mul}
 use native.Mathlib.Nat.{le_of_mul-le-mul_right}
 use Rattle.whole.proofs.Comparisons.{≤ℤ-trans}
 use Rattle.whole.proofs.Powers.{power_pos, power_split}

@@ -1,7 +1,6 @@
 -- Of an accepted four no operation of either method refuses, and every step lies in a known range.
 use Rattle.std.proofs.Common.{◌≡◌, ℕ, ◌+◌, ◌-◌, ◌*◌, ◌^◌, ◌<◌, ◌≤◌, Bool, true, cond, nat_lt, ℤ, pos, ◌+ℤ◌}
-use Rattle.std.proofs.Common.{unsigned_abs}
-use Rattle.std.proofs.Common.{◌≤ℤ◌, Ok, Result, sym, ap, ◌∙◌, subst, inl, inr, arith}
+use Rattle.std.proofs.Common.{unsigned_abs, ◌≤ℤ◌, Ok, Result, sym, ap, ◌∙◌, subst, inl, inr, arith}
 use borrow.Author.Differences.{ints}
 use Rattle.std.proofs.lemmas.Bool.Decides.{nat_tests}
 use Rattle.whole.proofs.Powers.{power_pos}
@@ -15,8 +14,8 @@ use Rattle.kinds.proofs.Sizes.{radix_two, few_digits}
 use Rattle.bounds.specs.Fours.{Accepted}
 use Rattle.bounds.specs.Kahan.{rounded_product, product_error, fused_first, kahan, kahan_steps}
 use Rattle.bounds.specs.Symmetric.{products_sum, errors_sum, symmetric, symmetric_steps}
-use Rattle.bounds.proofs.Ranges.{Lies, Spans, lies_small, lies_near, lies_spans, lies_opposite}
-use Rattle.bounds.proofs.Ranges.{spans_later, product_spans, rounded_lies, sum_lies}
+use Rattle.bounds.proofs.Ranges.{Lies, Spans, lies_small, lies_near, lies_spans, lies_opposite, spans_later}
+use Rattle.bounds.proofs.Ranges.{product_spans, rounded_lies, sum_lies}
 use Rattle.bounds.proofs.Operands.{normal_of, figure_of, Operand, Four, four, multiplied_ok, added_ok, fused_ok}
 
 module _ (β p : ℕ) (kind : IsKind β p) where

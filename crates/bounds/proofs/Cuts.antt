@@ -3,11 +3,8 @@
 use Rattle.std.proofs.Common.{◌≡◌, ℕ, zero, suc, ◌+◌, ◌*◌, ◌%◌, ◌^◌, ◌<◌, ◌≤◌, ◌⊎◌, sym, refl, ap, ◌∙◌, subst, ap₂}
 use Rattle.std.proofs.Common.{inl, inr, mul-le-mul_right, mul-le-mul, mul-le-mul_left, arith}
 use Prim.Native.Nat.{◌∣◌}
-use native.Mathlib.Nat.{pow-zero}
-use native.Mathlib.Nat.{dvd_trans, dvd-mul_left, dvd-zero, one-dvd, dvd-add_iff_right, le_of_dvd}
-use Rattle.std.proofs.lemmas.Bool.{cases_lt}
-use native.Mathlib.Nat.{pow-succ'}
-use Rattle.std.proofs.lemmas.Bool.{cases_order}
+use native.Mathlib.Nat.{pow-zero, dvd_trans, dvd-mul_left, dvd-zero, one-dvd, dvd-add_iff_right, le_of_dvd, pow-succ'}
+use Rattle.std.proofs.lemmas.Bool.{cases_lt, cases_order}
 use Rattle.whole.proofs.Distances.{gap}
 use Rattle.whole.proofs.Powers.{power_pos, power_le}
 use Rattle.rounding.specs.Rounding.{raise}

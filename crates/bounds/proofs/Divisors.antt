@@ -1,7 +1,6 @@
 -- Multiples of a power among the whole numbers, signs apart.
 use Rattle.std.proofs.Common.{◌≡◌, ℕ, ◌+◌, ◌-◌, ◌^◌, ◌≤◌, ◌⊎◌, ℤ, pos, negsuc, ◌+ℤ◌, unsigned_abs, sym, refl, subst}
-use Rattle.std.proofs.Common.{inl}
-use Rattle.std.proofs.Common.{inr, arith}
+use Rattle.std.proofs.Common.{inl, inr, arith}
 use Prim.Native.Nat.{◌∣◌}
 use native.Mathlib.Nat.{dvd-add, dvd-sub, dvd-mul_left}
 use borrow.Author.Differences.{ints}

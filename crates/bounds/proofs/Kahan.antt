@@ -1,19 +1,18 @@
 -- Kahan's method: w = rn Y, then rn (rn (X + w) + rn (Y - w)) is within 1/B of X + Y.
 use Rattle.std.proofs.Common.{◌≡◌, ℕ, suc, ◌+◌, ◌*◌, ◌^◌, ◌<◌, ◌≤◌, ◌⊎◌, ℤ, pos, negsuc, ◌+ℤ◌, ◌-ℤ◌, neg_ℤ}
-use Rattle.std.proofs.Common.{unsigned_abs}
-use Rattle.std.proofs.Common.{sym, refl, ap, ◌∙◌, subst, inl, inr, mul-le-mul_right, mul-le-mul_left, arith}
+use Rattle.std.proofs.Common.{unsigned_abs, sym, refl, ap, ◌∙◌, subst, inl, inr, mul-le-mul_right, mul-le-mul_left}
+use Rattle.std.proofs.Common.{arith}
 use Prim.Native.Nat.{◌∣◌}
-use native.Mathlib.Nat.{dvd_trans}
+use native.Mathlib.Nat.{dvd_trans, pow-succ'}
 use borrow.Author.Differences.{ints}
 use Rattle.std.proofs.lemmas.Bool.{cases_lt}
-use native.Mathlib.Nat.{pow-succ'}
 use Rattle.whole.proofs.Integers.{unsigned_abs_neg}
 use Rattle.whole.proofs.Powers.{power_pos, power_le, power_parts}
 use Rattle.bounds.proofs.Divisors.{divides_sum, divides_power}
 use Rattle.bounds.proofs.Laws.{Ground, Coarse, Laws}
 use Rattle.bounds.proofs.Cases.{Shape, from, under, below_exact, fine_grain}
-use Rattle.bounds.proofs.Steps.{last_of, Close, near_close, no_error, exact_both, flip_close}
-use Rattle.bounds.proofs.Steps.{flip_coarse, r_half, Shaped, shaped}
+use Rattle.bounds.proofs.Steps.{last_of, Close, near_close, no_error, exact_both, flip_close, flip_coarse, r_half}
+use Rattle.bounds.proofs.Steps.{Shaped, shaped}
 use Rattle.bounds.proofs.Products.{Parts}
 use Rattle.bounds.proofs.Grain.{top_power}
 

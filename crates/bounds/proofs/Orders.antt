@@ -1,7 +1,6 @@
 -- An accepted four is accepted in any order, and with an operand's sign turned.
 use Rattle.std.proofs.Common.{◌≡◌, ℕ, ◌-◌, ◌^◌, ◌<◌, Bool, true, cond, ◌&&◌, ◌==◌, nat_lt, nat_le, unsigned_abs, Some}
-use Rattle.std.proofs.Common.{None}
-use Rattle.std.proofs.Common.{Option, ap, ◌∙◌, inl, inr, arith}
+use Rattle.std.proofs.Common.{None, Option, ap, ◌∙◌, inl, inr, arith}
 use Rattle.std.proofs.lemmas.Bool.Decides.{nat_tests}
 use Rattle.whole.proofs.Integers.{unsigned_abs_neg}
 use Rattle.rounding.specs.declared.Figure.{Figure}

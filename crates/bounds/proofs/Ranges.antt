@@ -1,12 +1,11 @@
 -- Where the exponents lie after some roundings of an accepted four: level n is n roundings past the products.
-use Rattle.std.proofs.Common.{ℕ, suc, ◌+◌, ◌-◌, ◌*◌, ◌^◌, ◌<◌, ◌≤◌, Bool, ℤ, pos, ◌+ℤ◌, ◌-ℤ◌, neg_ℤ, unsigned_abs, ◌≤ℤ◌}
-use Rattle.std.proofs.Common.{sym, refl, ap, subst, inl, inr, mul-le-mul_right, mul-le-mul_left}
+use Rattle.std.proofs.Common.{ℕ, suc, ◌+◌, ◌-◌, ◌*◌, ◌^◌, ◌<◌, ◌≤◌, Bool, ℤ, pos, ◌+ℤ◌, ◌-ℤ◌, neg_ℤ, unsigned_abs}
+use Rattle.std.proofs.Common.{◌≤ℤ◌, sym, refl, ap, subst, inl, inr, mul-le-mul_right, mul-le-mul_left}
 use Rattle.std.proofs.Common.{mul-lt-mul_of_pos_right, pow-suc, arith}
 use borrow.Author.Differences.{ints}
 use Rattle.std.specs.Int.{int_min}
-use Rattle.std.proofs.lemmas.Int.{clamps}
+use Rattle.std.proofs.lemmas.Int.{clamps, unsigned_abs-mul}
 use Rattle.std.proofs.lemmas.Bool.{cases_lt}
-use Rattle.std.proofs.lemmas.Int.{unsigned_abs-mul}
 use native.Mathlib.Nat.{le_of_mul-le-mul_right}
 use Rattle.std.proofs.lemmas.Nat.{mul-lt}
 use Rattle.whole.proofs.Integers.{unsigned_abs_neg}

@@ -1,15 +1,14 @@
 -- A rounding of the natural numbers, carried to ℤ by sign, keeps the laws.
 use Rattle.std.proofs.Common.{◌≡◌, ℕ, zero, suc, ◌*◌, ◌%◌, ◌^◌, ◌≤◌, ◌⊎◌, ℤ, pos, negsuc, ◌-ℤ◌, neg_ℤ, unsigned_abs}
-use Rattle.std.proofs.Common.{◌≤ℤ◌}
-use Rattle.std.proofs.Common.{sym, refl, ap, ◌∙◌, subst, inl, inr, mul-le-mul_right, arith}
+use Rattle.std.proofs.Common.{◌≤ℤ◌, sym, refl, ap, ◌∙◌, subst, inl, inr, mul-le-mul_right, arith}
 use Prim.Native.Nat.{◌∣◌}
 use lib.IntN.{neg_ℤ-neg_ℤ}
 use borrow.Author.Differences.{ints}
 use Rattle.whole.proofs.Distances.{gap, pos_gap}
 use Rattle.whole.proofs.Integers.{unsigned_abs_neg}
 use Rattle.bounds.proofs.Laws.{Coarse, Laws}
-use Rattle.bounds.proofs.Cuts.{Rounds, cut_low, cut_high, half_law, fix_law, relative_law, order_law}
-use Rattle.bounds.proofs.Cuts.{multiple_law, middle_law, tie_law, zero_law}
+use Rattle.bounds.proofs.Cuts.{Rounds, cut_low, cut_high, half_law, fix_law, relative_law, order_law, multiple_law}
+use Rattle.bounds.proofs.Cuts.{middle_law, tie_law, zero_law}
 
 -- a function on sizes, with the sign kept
 abbrev pub by_sign : (ℕ → ℕ) → ℤ → ℤ

@@ -1,13 +1,11 @@
 -- The last two roundings of a method: P is rounded, E is rounded, and their sum is rounded. Where the answer lies
 -- within 1/B of P + E, from the laws of rounding alone.
 use Rattle.std.proofs.Common.{◌≡◌, ℕ, suc, ◌+◌, ◌*◌, ◌^◌, ◌<◌, ◌≤◌, ℤ, pos, negsuc, ◌+ℤ◌, ◌-ℤ◌, neg_ℤ, unsigned_abs}
-use Rattle.std.proofs.Common.{◌≤ℤ◌}
-use Rattle.std.proofs.Common.{◌<ℤ◌, sym, ap, ◌∙◌, subst, ap₂, mul-le-mul_right, arith}
+use Rattle.std.proofs.Common.{◌≤ℤ◌, ◌<ℤ◌, sym, ap, ◌∙◌, subst, ap₂, mul-le-mul_right, arith}
 use Prim.Native.Nat.{◌∣◌}
-use native.Mathlib.Nat.{dvd_trans, dvd-mul_left, dvd-zero}
+use native.Mathlib.Nat.{dvd_trans, dvd-mul_left, dvd-zero, pow-succ'}
 use lib.IntN.{neg_ℤ-+ℤ}
 use borrow.Author.Differences.{ints}
-use native.Mathlib.Nat.{pow-succ'}
 use Rattle.whole.proofs.Distances.{gap, pos_gap}
 use Rattle.whole.proofs.Integers.{unsigned_abs_neg}
 use Rattle.bounds.proofs.Divisors.{divides_sum, divides_power}

@@ -1,7 +1,6 @@
 -- The error theorems on whole numbers: X = ab and Y = cd in one unit, zeros and every sign included.
 use Rattle.std.proofs.Common.{◌≡◌, ℕ, suc, ◌+◌, ◌*◌, ◌^◌, ◌<◌, ◌≤◌, ℤ, pos, ◌+ℤ◌, ◌-ℤ◌, unsigned_abs, sym, ap, ◌∙◌}
-use Rattle.std.proofs.Common.{subst}
-use Rattle.std.proofs.Common.{ap₂, inl, inr, arith}
+use Rattle.std.proofs.Common.{subst, ap₂, inl, inr, arith}
 use Prim.Native.Nat.{◌∣◌}
 use native.Mathlib.Nat.{dvd-zero}
 use lib.IntN.{+ℤ_idl, +ℤ_idr}

@@ -1,21 +1,19 @@
 -- The symmetric method: both products rounded, then rn (rn (rn X + rn Y) + rn (both errors)) is within 1/B of X + Y.
 use Rattle.std.proofs.Common.{◌≡◌, ℕ, suc, ◌+◌, ◌*◌, ◌^◌, ◌<◌, ◌≤◌, ◌⊎◌, ℤ, pos, negsuc, ◌+ℤ◌, ◌-ℤ◌, neg_ℤ}
-use Rattle.std.proofs.Common.{unsigned_abs}
-use Rattle.std.proofs.Common.{◌≤ℤ◌, ◌<ℤ◌, sym, ap, ◌∙◌, subst, inl, inr, mul-le-mul_right, mul-le-mul}
+use Rattle.std.proofs.Common.{unsigned_abs, ◌≤ℤ◌, ◌<ℤ◌, sym, ap, ◌∙◌, subst, inl, inr, mul-le-mul_right, mul-le-mul}
 use Rattle.std.proofs.Common.{mul-le-mul_left, arith}
-use native.Mathlib.Nat.{dvd_trans}
+use native.Mathlib.Nat.{dvd_trans, pow-succ'}
 use lib.IntN.{+ℤ_comm}
 use borrow.Author.Differences.{ints}
 use Rattle.std.proofs.lemmas.Bool.{cases_lt}
-use native.Mathlib.Nat.{pow-succ'}
 use Rattle.whole.proofs.Distances.{gap}
 use Rattle.whole.proofs.Integers.{unsigned_abs_neg}
 use Rattle.whole.proofs.Powers.{power_pos, power_le}
 use Rattle.bounds.proofs.Divisors.{divides_sum, divides_power}
 use Rattle.bounds.proofs.Laws.{Ground, Coarse, Laws}
 use Rattle.bounds.proofs.Cases.{from, under, below_near}
-use Rattle.bounds.proofs.Steps.{V_small, last_of, key, Close, near_close, exact_first, flip_close}
-use Rattle.bounds.proofs.Steps.{flip_coarse, r_half, Shaped, shaped}
+use Rattle.bounds.proofs.Steps.{V_small, last_of, key, Close, near_close, exact_first, flip_close, flip_coarse, r_half}
+use Rattle.bounds.proofs.Steps.{Shaped, shaped}
 use Rattle.bounds.proofs.Products.{Parts}
 use Rattle.bounds.proofs.Grain.{grain}
 

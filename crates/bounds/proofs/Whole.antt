@@ -2,11 +2,10 @@
 use Rattle.std.proofs.Common.{◌≡◌, ℕ, zero, suc, ◌+◌, ◌-◌, ◌*◌, ◌/◌, ◌%◌, ◌^◌, ◌<◌, ◌≤◌, Bool, true, false, ◌⊎◌, ℤ}
 use Rattle.std.proofs.Common.{pos, ◌-ℤ◌, ◌*ℤ◌, unsigned_abs, ◌≤ℤ◌, sym, refl, ap, ◌∙◌, subst, ap₂, inl, inr, mod-lt}
 use Rattle.std.proofs.Common.{mul-le-mul, div-add-mod', mul-one, div-one, arith}
-use native.Mathlib.Nat.{pow-zero, mod-one}
+use native.Mathlib.Nat.{pow-zero, mod-one, sub-add_cancel}
 use lib.IntN.{zero-*ℤ}
 use Rattle.std.proofs.lemmas.Bool.{cases_lt}
 use Rattle.std.proofs.lemmas.Nat.{same_from_place}
-use native.Mathlib.Nat.{sub-add_cancel}
 use Rattle.whole.proofs.Comparisons.{size_zero}
 use Rattle.whole.proofs.Powers.{power_pos, power_le, power_order, power_split, power_parts, power_even, power_one}
 use Rattle.rounding.specs.declared.Figure.{Figure}

@@ -1,5 +1,5 @@
 -- What an outcome, a refusal or a value, says of the fault that decided it.
-use Rattle.std.proofs.Common.{◌≡◌, ℕ, Some, None, Ok, Err, Option, Result, refl, arith}
+use Rattle.std.proofs.Common.{◌≡◌, ℕ, Some, None, Ok, Err, Option, Result, refl}
 use Rattle.rounding.specs.Refusals.{unless, kept}
 
 pub refused : {X : Type 0} (o : Option ℕ) (x : X) (n : ℕ) → ◌≡◌ {A = Result X ℕ} (Err n) (unless o x) → o ≡ Some n

@@ -1,6 +1,6 @@
 -- What joining two sizes by their signs says of the exact sum, in any units fine enough for what lies below.
-use Rattle.std.proofs.Common.{◌≡◌, ℕ, ◌+◌, ◌-◌, ◌*◌, ◌<◌, ◌≤◌, Bool, true, false, not, ◌==◌, nat_lt, ◌+ℤ◌, sym}
-use Rattle.std.proofs.Common.{refl, ap, subst, arith}
+use Rattle.std.proofs.Common.{◌≡◌, ℕ, ◌+◌, ◌-◌, ◌*◌, ◌<◌, ◌≤◌, Bool, true, false, not, ◌==◌, nat_lt, ◌+ℤ◌, sym, refl}
+use Rattle.std.proofs.Common.{ap, subst, arith}
 use mathlib.Core.Bool.{beq}
 use borrow.Author.Differences.{ints}
 use Rattle.std.proofs.lemmas.Bool.{cond_both}

@@ -1,7 +1,7 @@
 -- What the rounding routine computes of a truncated number is the rounded figure of what it stands for.
-use Rattle.std.proofs.Common.{◌≡◌, ℕ, zero, suc, ◌+◌, ◌-◌, ◌*◌, ◌/◌, ◌%◌, ◌^◌, ◌<◌, ◌≤◌, Bool, true, false, if◌then◌else◌, ◌==◌}
-use Rattle.std.proofs.Common.{nat_le, ℤ, pos, ◌+ℤ◌, ◌-ℤ◌, unsigned_abs, ◌≤ℤ◌, sym, refl, ap, ◌∙◌, subst, ap₂}
-use Rattle.std.proofs.Common.{mul-le-mul, mul-le-mul_left, mul-one, arith}
+use Rattle.std.proofs.Common.{◌≡◌, ℕ, zero, suc, ◌+◌, ◌-◌, ◌*◌, ◌/◌, ◌%◌, ◌^◌, ◌<◌, ◌≤◌, Bool, true, false}
+use Rattle.std.proofs.Common.{if◌then◌else◌, ◌==◌, nat_le, ℤ, pos, ◌+ℤ◌, ◌-ℤ◌, unsigned_abs, ◌≤ℤ◌, sym, refl, ap, ◌∙◌}
+use Rattle.std.proofs.Common.{subst, ap₂, mul-le-mul, mul-le-mul_left, mul-one, arith}
 use native.Mathlib.Nat.{pow-zero, add-zero}
 use lib.Signed.{≤ℤ_refl}
 use borrow.Author.Differences.{ints}

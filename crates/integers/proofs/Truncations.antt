@@ -1,6 +1,5 @@
 -- What a truncated number says of the exact number that it stands for.
-use Rattle.std.proofs.Common.{◌≡◌, ℕ, ◌+◌, ◌*◌, ◌^◌, ◌<◌, ◌≤◌, true, false, pos, ◌+ℤ◌, sym, refl, ap}
-use Rattle.std.proofs.Common.{arith}
+use Rattle.std.proofs.Common.{◌≡◌, ℕ, ◌+◌, ◌*◌, ◌^◌, ◌<◌, ◌≤◌, true, false, pos, ◌+ℤ◌, sym, refl, ap, arith}
 use native.Mathlib.Nat.{pow-zero}
 use lib.IntN.{+ℤ_idr}
 use Rattle.whole.proofs.Powers.{power_pos}

@@ -1,6 +1,6 @@
 -- What the radix and the precision of a kind say of its powers: how large they are, and that words have room for them.
-use Rattle.std.proofs.Common.{◌≡◌, ℕ, zero, suc, ◌+◌, ◌-◌, ◌*◌, ◌^◌, ◌<◌, ◌≤◌, sym, ap, ◌∙◌}
-use Rattle.std.proofs.Common.{mul-le-mul_right, mul-le-mul, pow-suc, mul-zero, sub-add_cancel, add-one, arith}
+use Rattle.std.proofs.Common.{◌≡◌, ℕ, zero, suc, ◌+◌, ◌-◌, ◌*◌, ◌^◌, ◌<◌, ◌≤◌, sym, ap, ◌∙◌, mul-le-mul_right}
+use Rattle.std.proofs.Common.{mul-le-mul, pow-suc, mul-zero, sub-add_cancel, add-one, arith}
 use native.Mathlib.Nat.{two-mul}
 use Rattle.whole.proofs.Comparisons.{root}
 use Rattle.whole.proofs.Powers.{power_pos, power_le, power_below, power_one, power_split, power_parts}

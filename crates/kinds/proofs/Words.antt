@@ -1,7 +1,6 @@
 -- How powers that outgrow a word divide what a word holds, and what the loop that counts digits keeps.
-use Rattle.std.proofs.Common.{◌≡◌, ℕ, ◌+◌, ◌-◌, ◌*◌, ◌/◌, ◌%◌, ◌^◌, ◌<◌, ◌≤◌, ◌⊎◌, sym, ap, ◌∙◌, subst, inl}
-use Rattle.std.proofs.Common.{inr, mul_comm, div-lt_iff_lt-mul, mul-le-mul_left, pow-suc}
-use Rattle.std.proofs.Common.{le-div_iff_mul-le, add-one, arith}
+use Rattle.std.proofs.Common.{◌≡◌, ℕ, ◌+◌, ◌-◌, ◌*◌, ◌/◌, ◌%◌, ◌^◌, ◌<◌, ◌≤◌, ◌⊎◌, sym, ap, ◌∙◌, subst, inl, inr}
+use Rattle.std.proofs.Common.{mul_comm, div-lt_iff_lt-mul, mul-le-mul_left, pow-suc, le-div_iff_mul-le, add-one, arith}
 use native.Mathlib.Nat.{pow-zero, mul-mod_left, mul_assoc, add-sub_cancel}
 use Rattle.std.proofs.lemmas.Bool.{cases_lt}
 use Rattle.rounding.specs.Digits.{digits}

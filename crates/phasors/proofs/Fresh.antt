@@ -1,7 +1,7 @@
 -- One and zero: both are figures that a method accepts, and they stand for the exact number one.
-use Rattle.std.proofs.Common.{◌≡◌, ℕ, ◌+◌, ◌-◌, ◌*◌, ◌^◌, ◌<◌, ◌≤◌, Bool, true, cond, if◌then◌else◌, ◌&&◌, ◌==◌, nat_lt, nat_le, ℤ}
-use Rattle.std.proofs.Common.{pos}
-use Rattle.std.proofs.Common.{◌-ℤ◌, unsigned_abs, ◌≤ℤ◌, Some, None, sym, ap, ◌∙◌, subst, ap₂, arith, pow-add}
+use Rattle.std.proofs.Common.{◌≡◌, ℕ, ◌+◌, ◌-◌, ◌*◌, ◌^◌, ◌<◌, ◌≤◌, Bool, true, cond, if◌then◌else◌, ◌&&◌, ◌==◌}
+use Rattle.std.proofs.Common.{nat_lt, nat_le, ℤ, pos, ◌-ℤ◌, unsigned_abs, ◌≤ℤ◌, Some, None, sym, ap, ◌∙◌, subst, ap₂}
+use Rattle.std.proofs.Common.{arith, pow-add}
 use borrow.Author.Differences.{ints}
 use Rattle.std.proofs.lemmas.Bool.Decides.{nat_tests}
 use Rattle.whole.proofs.Comparisons.{size_same}

@@ -1,15 +1,11 @@
 -- One turn of a phasor, with exponents: counted in fine units it is a turn on whole numbers.
 use Rattle.std.proofs.Common.{◌≡◌, ℕ, ◌+◌, ◌-◌, ◌*◌, ◌^◌, ◌≤◌, [], ◌∷◌, ℤ, pos, ◌+ℤ◌, ◌-ℤ◌, ◌*ℤ◌, unsigned_abs, ◌≤ℤ◌}
-use Rattle.std.proofs.Common.{sym}
-use Rattle.std.proofs.Common.{ap, ◌∙◌, subst, ap₂, mul-le-mul, pow-suc, add-one, arith, pow-add}
-use native.Mathlib.Nat.{pow-le-pow_left}
-use native.Mathlib.Nat.{le-add_right}
+use Rattle.std.proofs.Common.{sym, ap, ◌∙◌, subst, ap₂, mul-le-mul, pow-suc, add-one, arith, pow-add}
+use native.Mathlib.Nat.{pow-le-pow_left, le-add_right, le_of_mul-le-mul_right}
 use Rattle.kinds.proofs.Sizes.{double_power}
 use borrow.Author.Differences.{ints}
 use Rattle.std.specs.Int.{int_min}
-use Rattle.std.proofs.lemmas.Int.{clamps}
-use Rattle.std.proofs.lemmas.Int.{unsigned_abs-mul}
-use native.Mathlib.Nat.{le_of_mul-le-mul_right}
+use Rattle.std.proofs.lemmas.Int.{clamps, unsigned_abs-mul}
 use Rattle.whole.proofs.Comparisons.{≤ℤ-trans}
 use Rattle.whole.proofs.Identities.{identity, reads}
 use Rattle.whole.proofs.Integers.{neg_left}

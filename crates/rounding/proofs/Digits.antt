@@ -1,7 +1,6 @@
 -- A number n > 0 has the one number of digits d with β^(d-1) ≤ n < β^d.
-use Rattle.std.proofs.Common.{◌≡◌, ℕ, zero, suc, ◌-◌, ◌*◌, ◌/◌, ◌^◌, ◌<◌, ◌≤◌, Bool, true, false, nat_lt, ◌⊎◌}
-use Rattle.std.proofs.Common.{sym, refl, ap, subst, inl, inr, le_refl, div-lt_iff_lt-mul, pow-suc, le-div_iff_mul-le}
-use Rattle.std.proofs.Common.{arith}
+use Rattle.std.proofs.Common.{◌≡◌, ℕ, zero, suc, ◌-◌, ◌*◌, ◌/◌, ◌^◌, ◌<◌, ◌≤◌, Bool, true, false, nat_lt, ◌⊎◌, sym}
+use Rattle.std.proofs.Common.{refl, ap, subst, inl, inr, le_refl, div-lt_iff_lt-mul, pow-suc, le-div_iff_mul-le, arith}
 use native.Mathlib.Nat.{pow-zero, div-lt_self}
 use Rattle.std.proofs.lemmas.Bool.{ltb-true, ltb-false}
 use Rattle.whole.proofs.Powers.{power_pos, power_order, power_one}

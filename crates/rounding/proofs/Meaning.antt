@@ -1,7 +1,6 @@
 -- The theorem above `rounded`: its figure is nearest, ties to even, and the only one that is.
 use Rattle.std.proofs.Common.{◌≡◌, ℕ, ◌+◌, ◌-◌, ◌*◌, ◌%◌, ◌^◌, ◌<◌, ◌≤◌, ◌⊎◌, ℤ, pos, ◌-ℤ◌, ◌*ℤ◌, unsigned_abs, ◌≤ℤ◌}
-use Rattle.std.proofs.Common.{sym}
-use Rattle.std.proofs.Common.{refl, ap, ◌∙◌, subst, ap₂, inl, inr, zero-le, mul-le-mul, arith}
+use Rattle.std.proofs.Common.{sym, refl, ap, ◌∙◌, subst, ap₂, inl, inr, zero-le, mul-le-mul, arith}
 use lib.IntN.{zero-*ℤ, +ℤ_idr}
 use lib.Signed.{≤ℤ_refl}
 use borrow.Author.Differences.{ints}

@@ -2,9 +2,8 @@
 -- in a tie.
 use Rattle.std.proofs.Common.{◌≡◌, ℕ, suc, ◌+◌, ◌-◌, ◌*◌, ◌%◌, ◌^◌, ◌<◌, ◌≤◌, ◌⊎◌, sym, ap, ◌∙◌, inl, inr}
 use Rattle.std.proofs.Common.{mul-le-mul_right, mul_assoc, mul-le-mul_left, mul-lt-mul_of_pos_right, pow-suc, arith}
-use Rattle.std.proofs.lemmas.Bool.{cases_lt}
+use Rattle.std.proofs.lemmas.Bool.{cases_lt, cases_order}
 use native.Mathlib.Nat.{eq_of_mul-eq-mul_right}
-use Rattle.std.proofs.lemmas.Bool.{cases_order}
 use Rattle.whole.proofs.Distances.{gap}
 use Rattle.whole.proofs.Powers.{power_pos, power_le, power_parts}
 use Rattle.rounding.proofs.Places.{Placed, raise_less, raise_more, raise_tie, raise_few}

@@ -4,8 +4,7 @@ use Rattle.std.proofs.Common.{ap₂, arith, pow-add}
 use lib.IntN.{+ℤ_comm}
 use borrow.Author.Differences.{ints}
 use Rattle.std.specs.Int.{int_min}
-use Rattle.std.proofs.lemmas.Int.{clamps}
-use Rattle.std.proofs.lemmas.Int.{unsigned_abs-mul}
+use Rattle.std.proofs.lemmas.Int.{clamps, unsigned_abs-mul}
 use Rattle.whole.proofs.Integers.{*ℤ-assoc, +ℤ-*ℤ, neg_left}
 use Rattle.rounding.specs.declared.Figure.{Figure}
 use Rattle.rounding.specs.Exact.{Exact, value, units, plus, distance}

@@ -1,6 +1,5 @@
 -- The order of squares, and order and size on ℤ.
-use Rattle.std.proofs.Common.{◌≡◌, ℕ, ◌*◌, ◌≤◌, ℤ, pos, ◌-ℤ◌, unsigned_abs, ◌≤ℤ◌, inl, inr, mul-le-mul}
-use Rattle.std.proofs.Common.{arith}
+use Rattle.std.proofs.Common.{◌≡◌, ℕ, ◌*◌, ◌≤◌, ℤ, pos, ◌-ℤ◌, unsigned_abs, ◌≤ℤ◌, inl, inr, mul-le-mul, arith}
 use Rattle.std.proofs.lemmas.Bool.{cases_lt}
 use borrow.Author.Differences.{ints}
 

@@ -1,7 +1,6 @@
 -- Laws of ℤ that the library lacks: associativity and distributivity of the product, and opposites.
-use Rattle.std.proofs.Common.{◌≡◌, ℕ, ◌+◌, ◌*◌, ℤ, pos, negsuc, ◌+ℤ◌, ◌*ℤ◌, neg_ℤ, unsigned_abs, sym, ap}
-use Rattle.std.proofs.Common.{◌∙◌}
-use Rattle.std.proofs.Common.{ap₂, arith}
+use Rattle.std.proofs.Common.{◌≡◌, ℕ, ◌+◌, ◌*◌, ℤ, pos, negsuc, ◌+ℤ◌, ◌*ℤ◌, neg_ℤ, unsigned_abs, sym, ap, ◌∙◌, ap₂}
+use Rattle.std.proofs.Common.{arith}
 use borrow.Author.Differences.{up, down, same_in, sum_is_lem, neg_is, product_is, ints}
 use lib.IntN.{*ℤ_comm}
 

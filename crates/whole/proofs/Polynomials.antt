@@ -1,8 +1,7 @@
 -- Expressions over ℤ are brought to polynomials by computation; those whose difference is the zero polynomial are
 -- equal.
 use Rattle.std.proofs.Common.{◌≡◌, ℕ, zero, suc, Bool, true, false, T, ◌==◌, nat_le, List, [], ◌∷◌, ℤ, pos, negsuc}
-use Rattle.std.proofs.Common.{◌+ℤ◌}
-use Rattle.std.proofs.Common.{◌*ℤ◌, neg_ℤ, sym, refl, ap, ◌∙◌, subst, ap₂, arith, eqb→eq}
+use Rattle.std.proofs.Common.{◌+ℤ◌, ◌*ℤ◌, neg_ℤ, sym, refl, ap, ◌∙◌, subst, ap₂, arith, eqb→eq}
 use Prim.Native.Nat.{compare, Ordering}
 use lib.Dec.{compare_is_eq}
 use lib.IntN.{*ℤ_comm, *ℤ-zero, zero-*ℤ, +ℤ_comm, +ℤ_assoc, +ℤ_idl, +ℤ_idr}

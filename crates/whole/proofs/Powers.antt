@@ -1,6 +1,6 @@
 -- Powers of a radix: positive, ordered as their exponents are, even where the radix is.
-use Rattle.std.proofs.Common.{◌≡◌, ℕ, suc, ◌+◌, ◌-◌, ◌*◌, ◌/◌, ◌%◌, ◌^◌, ◌<◌, ◌≤◌, sym, ap, ◌∙◌, inl, inr}
-use Rattle.std.proofs.Common.{pow-suc, arith, pow-add}
+use Rattle.std.proofs.Common.{◌≡◌, ℕ, suc, ◌+◌, ◌-◌, ◌*◌, ◌/◌, ◌%◌, ◌^◌, ◌<◌, ◌≤◌, sym, ap, ◌∙◌, inl, inr, pow-suc}
+use Rattle.std.proofs.Common.{arith, pow-add}
 use native.Mathlib.Nat.{one-le-pow, pow-le-pow_right, pow-le-pow_left, pow-zero, pow-succ', one-mul}
 use Rattle.std.proofs.lemmas.Bool.{cases_lt}
 
