@@ -1,5 +1,5 @@
 -- What compares as equal is the same: refusals, answers, and results of both.
-use Rattle.std.proofs.Common.{◌≡◌, Bool, true, false, ◌&&◌, Ok, Err, Result, nat_eq, rules, ap, sym, refl}
+use Rattle.std.proofs.Common.{◌≡◌, true, ◌&&◌, Ok, Err, Result, nat_eq, rules, ap, sym}
 use Rattle.std.specs.Result.{result_eq}
 use Rattle.std.proofs.lemmas.Bool.{and_parts}
 use Rattle.rounding.specs.declared.Refusal.{Refusal}
