@@ -1,6 +1,6 @@
 -- Of an accepted four no operation of either method refuses, and every step lies in a known range.
-use Rattle.std.proofs.Common.{◌≡◌, ℕ, ◌+◌, ◌-◌, ◌*◌, ◌^◌, ◌<◌, ◌≤◌, Bool, true, cond, ltb, ℤ, pos, ◌+ℤ◌, nat_abs}
-use Rattle.std.proofs.Common.{◌≤ℤ◌, Ok, Result, sym, ap, ◌∙◌, subst, inl, inr, arith}
+use Rattle.std.proofs.Common.{◌≡◌, ℕ, ◌+◌, ◌-◌, ◌*◌, ◌^◌, ◌<◌, ◌≤◌, Bool, true, cond, nat_lt, ℤ, pos, ◌+ℤ◌}
+use Rattle.std.proofs.Common.{unsigned_abs, ◌≤ℤ◌, Ok, Result, sym, ap, ◌∙◌, subst, inl, inr, arith}
 use borrow.Author.Differences.{ints}
 use Rattle.std.proofs.lemmas.Bool.Decides.{nat_tests}
 use Rattle.whole.proofs.Powers.{power_pos}
@@ -14,8 +14,8 @@ use Rattle.kinds.proofs.Sizes.{radix_two, few_digits}
 use Rattle.bounds.specs.Fours.{Accepted}
 use Rattle.bounds.specs.Kahan.{rounded_product, product_error, fused_first, kahan, kahan_steps}
 use Rattle.bounds.specs.Symmetric.{products_sum, errors_sum, symmetric, symmetric_steps}
-use Rattle.bounds.proofs.Ranges.{Lies, Spans, lies_small, lies_near, lies_spans, lies_opposite}
-use Rattle.bounds.proofs.Ranges.{spans_later, product_spans, rounded_lies, sum_lies}
+use Rattle.bounds.proofs.Ranges.{Lies, Spans, lies_small, lies_near, lies_spans, lies_opposite, spans_later}
+use Rattle.bounds.proofs.Ranges.{product_spans, rounded_lies, sum_lies}
 use Rattle.bounds.proofs.Operands.{normal_of, figure_of, Operand, Four, four, multiplied_ok, added_ok, fused_ok}
 
 module _ (β p : ℕ) (kind : IsKind β p) where
@@ -31,20 +31,20 @@ module _ (β p : ℕ) (kind : IsKind β p) where
   -- a figure at one of the levels is a figure of the kind, and its opposite fits a word
   pub lies_figure : (n : ℕ) (f : Figure) → n ≤ 4 → Lies β p n f → is_figure β p f ≡ true
   lies_figure n f h l = figure_of β p f l.normal (power_pos β (p - 1) two)
-      (let near : nat_abs f.q ≤ 500 = lies_near β p two some few n f h l in omega arith)
+      (let near : unsigned_abs f.q ≤ 500 = lies_near β p two some few n f h l in omega arith)
 
   lies_flipped : (n : ℕ) (f : Figure) → Lies β p n f → flipped f ≡ opposite f
   lies_flipped n f l =
-      let small : nat_abs f.s < β ^ p = lies_small β p two some few n f l in
+      let small : unsigned_abs f.s < β ^ p = lies_small β p two some few n f l in
       let top : β ^ p ≤ 16777216 = kind.3 in
-      let t : ltb (nat_abs f.s) (2 ^ 31) ≡ true = grind (arith, nat_tests) in
+      let t : nat_lt (unsigned_abs f.s) (2 ^ 31) ≡ true = grind (arith, nat_tests) in
       ap (λ (b : Bool). cond b (opposite f) f) t
 
   -- two operands, their product, its rounding and its error
   module _ (c d : Figure) (c_in : Operand β p c) (d_in : Operand β p d) where
-    size : (f : Figure) → is_figure β p f ≡ true → nat_abs f.s < β ^ p
+    size : (f : Figure) → is_figure β p f ≡ true → unsigned_abs f.s < β ^ p
     size f t = elim (normal_of β p f t) [
-      | inl z ↦ subst (λ (s : ℤ). nat_abs s < β ^ p) (sym z.0) (power_pos β p two)
+      | inl z ↦ subst (λ (s : ℤ). unsigned_abs s < β ^ p) (sym z.0) (power_pos β p two)
       | inr n ↦ n.1
     ]
 
@@ -94,7 +94,7 @@ module _ (β p : ℕ) (kind : IsKind β p) where
     spans : (n : ℕ) (f : Figure) → Lies β p n f → Spans β n (value f)
     spans n f l = lies_spans β p two some few n f l
 
-    near : (n : ℕ) (f : Figure) → n ≤ 4 → Lies β p n f → nat_abs f.q ≤ 500
+    near : (n : ℕ) (f : Figure) → n ≤ 4 → Lies β p n f → unsigned_abs f.q ≤ 500
     near n f h l = lies_near β p two some few n f h l
 
     pub f_lies : Lies β p 2 (fused_first β p a b c d)

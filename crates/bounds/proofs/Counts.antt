@@ -1,13 +1,13 @@
 -- The methods' steps, counted in fine units: they are the methods on whole numbers.
-use Rattle.std.proofs.Common.{◌≡◌, ℕ, ◌+◌, ◌-◌, ◌*◌, ◌^◌, ◌<◌, ◌≤◌, ℤ, pos, ◌+ℤ◌, ◌-ℤ◌, ◌*ℤ◌, neg_ℤ, nat_abs, ◌≤ℤ◌}
-use Rattle.std.proofs.Common.{sym, ap, ◌∙◌, subst, ap₂, inl, inr, mul-le-mul_right, mul-le-mul, arith}
+use Rattle.std.proofs.Common.{◌≡◌, ℕ, ◌+◌, ◌-◌, ◌*◌, ◌^◌, ◌<◌, ◌≤◌, ℤ, pos, ◌+ℤ◌, ◌-ℤ◌, ◌*ℤ◌, neg_ℤ, unsigned_abs}
+use Rattle.std.proofs.Common.{◌≤ℤ◌, sym, ap, ◌∙◌, subst, ap₂, inl, inr, mul-le-mul_right, mul-le-mul, arith}
 use Prim.Native.Nat.{◌∣◌}
 use native.Mathlib.Nat.{dvd-mul_left}
 use lib.IntN.{zero-*ℤ, *ℤ-zero}
 use borrow.Author.Differences.{ints}
 use Rattle.std.specs.Int.{int_min}
-use Rattle.std.proofs.lemmas.Int.{clamps}
-use Rattle.whole.proofs.Integers.{+ℤ-*ℤ, neg_left, nat_abs_mul}
+use Rattle.std.proofs.lemmas.Int.{clamps, unsigned_abs-mul}
+use Rattle.whole.proofs.Integers.{+ℤ-*ℤ, neg_left}
 use Rattle.whole.proofs.Powers.{power_split}
 use Rattle.rounding.specs.declared.Figure.{Figure}
 use Rattle.rounding.specs.Exact.{Exact, value, product, units, plus}
@@ -31,7 +31,7 @@ use Rattle.bounds.proofs.Chains.{w_lies, e_lies, f_lies, r_lies, e_sum}
 pub units_plus : (β : ℕ) (k : ℤ) (x y : Exact) → k ≤ℤ x.e → k ≤ℤ y.e
     → units β k (plus β x y) ≡ units β k x +ℤ units β k y
 units_plus β k x y kx ky =
-    +ℤ-*ℤ (units β l x) (units β l y) (pos (β ^ nat_abs (l -ℤ k)))
+    +ℤ-*ℤ (units β l x) (units β l y) (pos (β ^ unsigned_abs (l -ℤ k)))
     ∙ sym (ap₂ (λ (a b : ℤ). a +ℤ b) (units_finer β k l x kl lx) (units_finer β k l y kl ly))
   where
     l : ℤ
@@ -47,7 +47,7 @@ units_plus β k x y kx ky =
     ly = omega (arith, ints, clamps)
 
 units_opposite : (β : ℕ) (k : ℤ) (f : Figure) → units β k (value (opposite f)) ≡ neg_ℤ (units β k (value f))
-units_opposite β k f = neg_left f.s (pos (β ^ nat_abs (f.q -ℤ k)))
+units_opposite β k f = neg_left f.s (pos (β ^ unsigned_abs (f.q -ℤ k)))
 
 module _ (β p : ℕ) (kind : IsKind β p) where
   two : 2 ≤ β
@@ -61,15 +61,16 @@ module _ (β p : ℕ) (kind : IsKind β p) where
 
   -- a product of two figures of the kind, counted
   pub product_term : (a b : Figure) (k : ℤ) → Normal β p a → Normal β p b
-      → Term β (β ^ (p - 1)) ground (units β k (product a b)) (nat_abs ((product a b).e -ℤ k))
-  product_term a b k (inl z) nb = inl (ap (λ (s : ℤ). s *ℤ b.s *ℤ pos (β ^ nat_abs ((product a b).e -ℤ k))) z.0
-      ∙ ap (λ (s : ℤ). s *ℤ pos (β ^ nat_abs ((product a b).e -ℤ k))) (zero-*ℤ b.s)
-      ∙ zero-*ℤ (pos (β ^ nat_abs ((product a b).e -ℤ k))))
-  product_term a b k (inr na) (inl z) = inl (ap (λ (s : ℤ). a.s *ℤ s *ℤ pos (β ^ nat_abs ((product a b).e -ℤ k))) z.0
-      ∙ ap (λ (s : ℤ). s *ℤ pos (β ^ nat_abs ((product a b).e -ℤ k))) (*ℤ-zero a.s)
-      ∙ zero-*ℤ (pos (β ^ nat_abs ((product a b).e -ℤ k))))
+      → Term β (β ^ (p - 1)) ground (units β k (product a b)) (unsigned_abs ((product a b).e -ℤ k))
+  product_term a b k (inl z) nb = inl (ap (λ (s : ℤ). s *ℤ b.s *ℤ pos (β ^ unsigned_abs ((product a b).e -ℤ k))) z.0
+      ∙ ap (λ (s : ℤ). s *ℤ pos (β ^ unsigned_abs ((product a b).e -ℤ k))) (zero-*ℤ b.s)
+      ∙ zero-*ℤ (pos (β ^ unsigned_abs ((product a b).e -ℤ k))))
+  product_term a b k (inr na) (inl z) =
+      inl (ap (λ (s : ℤ). a.s *ℤ s *ℤ pos (β ^ unsigned_abs ((product a b).e -ℤ k))) z.0
+      ∙ ap (λ (s : ℤ). s *ℤ pos (β ^ unsigned_abs ((product a b).e -ℤ k))) (*ℤ-zero a.s)
+      ∙ zero-*ℤ (pos (β ^ unsigned_abs ((product a b).e -ℤ k))))
   product_term a b k (inr na) (inr nb) = inr (record {
-    grain = subst (λ (n : ℕ). E ∣ n) (sym size) (dvd-mul_left E (nat_abs a.s * nat_abs b.s));
+    grain = subst (λ (n : ℕ). E ∣ n) (sym size) (dvd-mul_left E (unsigned_abs a.s * unsigned_abs b.s));
     most = subst (λ (n : ℕ). n ≤ ground.c * ground.c * E) (sym size)
         (mul-le-mul_right E (mul-le-mul (below na.1) (below nb.1)));
     least = subst (λ (n : ℕ). β ^ (p - 1) * β ^ (p - 1) * E ≤ n) (sym size)
@@ -77,11 +78,12 @@ module _ (β p : ℕ) (kind : IsKind β p) where
   })
     where
       E : ℕ
-      E = β ^ nat_abs ((product a b).e -ℤ k)
+      E = β ^ unsigned_abs ((product a b).e -ℤ k)
 
-      size : nat_abs (units β k (product a b)) ≡ nat_abs a.s * nat_abs b.s * β ^ nat_abs ((product a b).e -ℤ k)
-      size = nat_abs_mul (a.s *ℤ b.s) (pos (β ^ nat_abs ((product a b).e -ℤ k)))
-          ∙ ap (λ (n : ℕ). n * β ^ nat_abs ((product a b).e -ℤ k)) (nat_abs_mul a.s b.s)
+      size : unsigned_abs (units β k (product a b))
+          ≡ unsigned_abs a.s * unsigned_abs b.s * β ^ unsigned_abs ((product a b).e -ℤ k)
+      size = unsigned_abs-mul (a.s *ℤ b.s) (pos (β ^ unsigned_abs ((product a b).e -ℤ k)))
+          ∙ ap (λ (n : ℕ). n * β ^ unsigned_abs ((product a b).e -ℤ k)) (unsigned_abs-mul a.s b.s)
 
       below : {n : ℕ} → n < β ^ p → n ≤ ground.c
       below h = omega (arith, power_split β p (omega (arith, kind.1)), ground.top)

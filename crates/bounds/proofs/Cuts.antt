@@ -3,12 +3,10 @@
 use Rattle.std.proofs.Common.{◌≡◌, ℕ, zero, suc, ◌+◌, ◌*◌, ◌%◌, ◌^◌, ◌<◌, ◌≤◌, ◌⊎◌, sym, refl, ap, ◌∙◌, subst, ap₂}
 use Rattle.std.proofs.Common.{inl, inr, mul-le-mul_right, mul-le-mul, mul-le-mul_left, arith}
 use Prim.Native.Nat.{◌∣◌}
-use native.Mathlib.Nat.{pow-zero}
-use native.Mathlib.Nat.{dvd_trans, dvd-mul_left, dvd-zero, one-dvd, dvd-add_iff_right, le_of_dvd}
-use Rattle.std.proofs.lemmas.Bool.{cases_lt}
-use Rattle.whole.proofs.Comparisons.{order}
+use native.Mathlib.Nat.{pow-zero, dvd_trans, dvd-mul_left, dvd-zero, one-dvd, dvd-add_iff_right, le_of_dvd, pow-succ'}
+use Rattle.std.proofs.lemmas.Bool.{cases_lt, cases_order}
 use Rattle.whole.proofs.Distances.{gap}
-use Rattle.whole.proofs.Powers.{power_pos, power_le, power_next}
+use Rattle.whole.proofs.Powers.{power_pos, power_le}
 use Rattle.rounding.specs.Rounding.{raise}
 use Rattle.rounding.proofs.Places.{raise_less, raise_more, raise_tie, raise_few}
 use Rattle.bounds.proofs.Divisors.{divides_power}
@@ -43,7 +41,7 @@ module _ (β B : ℕ) (two : 2 ≤ β) (one : 1 ≤ B) where
     | inl g ↦ g
     | inr g ↦ absurd (
         let m : B * (β * β ^ b) ≤ B * β ^ suc a =
-        mul-le-mul_left B (omega (arith, power_next β b, unit_le (suc b) (suc a) (omega arith))) in
+        mul-le-mul_left B (omega (arith, pow-succ' β b, unit_le (suc b) (suc a) (omega arith))) in
         omega arith)
   ]
 
@@ -53,12 +51,12 @@ module _ (β B : ℕ) (two : 2 ≤ β) (one : 1 ≤ B) where
     | inl g ↦ absurd (
         let W : ℕ = B * (β * β ^ b) in
         let m : B * (β * β ^ suc b) ≤ B * β ^ suc a =
-        mul-le-mul_left B (omega (arith, power_next β (suc b), unit_le (suc (suc b)) (suc a) (omega arith))) in
+        mul-le-mul_left B (omega (arith, pow-succ' β (suc b), unit_le (suc (suc b)) (suc a) (omega arith))) in
         let pair : 2 * 1 ≤ β * β ^ b = mul-le-mul two (unit_pos b) in
         let some : 1 ≤ β * β ^ b = omega arith in
         let full : 1 * 1 ≤ B * (β * β ^ b) = mul-le-mul one some in
         let double : 2 * W ≤ β * W = mul-le-mul_right W two in
-        omega (arith, ap (λ (x : ℕ). B * (β * x)) (power_next β b)))
+        omega (arith, ap (λ (x : ℕ). B * (β * x)) (pow-succ' β b)))
   ]
 
   module _ (t v : ℕ) (c : Cut β B t v) where
@@ -75,10 +73,10 @@ module _ (β B : ℕ) (two : 2 ≤ β) (one : 1 ≤ B) where
       half : β ^ suc c.k ≤ 2 * c.w
 
     way : Down ⊎ Up
-    way = elim (order (2 * c.w) (β ^ suc c.k)) [
-      | inl h ↦ inl (down (c.raised ∙ raise_less (β ^ suc c.k) c.n (2 * c.w) h) (omega arith))
+    way = elim (cases_order (2 * c.w) (β ^ suc c.k)) [
+      | inr (inl h) ↦ inl (down (c.raised ∙ raise_less (β ^ suc c.k) c.n (2 * c.w) h) (omega arith))
       | inr (inr h) ↦ inr (up (c.raised ∙ raise_more (β ^ suc c.k) c.n (2 * c.w) h) (omega arith))
-      | inr (inl h) ↦ elim (cases_lt 0 c.u) [
+      | inl h ↦ elim (cases_lt 0 c.u) [
         | inl g ↦ inr (up (omega (arith, u_few)) (omega arith))
         | inr g ↦ inl (down (omega arith) (omega arith))
       ]
@@ -131,7 +129,7 @@ module _ (β B : ℕ) (two : 2 ≤ β) (one : 1 ≤ B) where
     at_edge t j c e h =
         let V : ℕ = β ^ suc c.k in
         let b : β * B * β ^ j ≡ B * V = ap (λ (x : ℕ). β * B * β ^ x) (sym e)
-        ∙ omega (arith, ap (λ (x : ℕ). B * x) (power_next β c.k)) in
+        ∙ omega (arith, ap (λ (x : ℕ). B * x) (pow-succ' β c.k)) in
         let m : B * V ≤ c.n * V = mul-le-mul_right V c.n_lo in
         omega (arith, c.is)
 
@@ -173,13 +171,13 @@ module _ (β B : ℕ) (two : 2 ≤ β) (one : 1 ≤ B) where
 
     -- what is kept lies below every cut
     kept_below : (k : ℕ) → β * B ≤ B * β ^ suc k
-    kept_below k = omega (arith, mul-le-mul_left (β * B) (unit_pos k), ap (λ (x : ℕ). B * x) (power_next β k))
+    kept_below k = omega (arith, mul-le-mul_left (β * B) (unit_pos k), ap (λ (x : ℕ). B * x) (pow-succ' β k))
 
     -- two cuts at one unit
     same_unit : (a b V : ℕ) → a ≤ b → (c : Cut β B a (rn a)) (e : Cut β B b (rn b)) → β ^ suc c.k ≡ V
         → β ^ suc e.k ≡ V → rn a ≤ rn b
-    same_unit a b V h c e p q = elim (order c.n e.n) [
-      | inl l ↦ omega (
+    same_unit a b V h c e p q = elim (cases_order c.n e.n) [
+      | inr (inl l) ↦ omega (
         arith,
         va,
         vb,
@@ -187,7 +185,7 @@ module _ (β B : ℕ) (two : 2 ≤ β) (one : 1 ≤ B) where
             (omega (arith, u_few a (rn a) c)),
       )
       | inr (inr l) ↦ absurd (omega (arith, ia, ib, wb, mul-le-mul_right {m = e.n + 1} {n = c.n} V (omega arith)))
-      | inr (inl l) ↦ omega (
+      | inl l ↦ omega (
         arith,
         va,
         vb,
@@ -221,10 +219,10 @@ module _ (β B : ℕ) (two : 2 ≤ β) (one : 1 ≤ B) where
         later : c.n ≡ e.n → c.u ≤ e.u
         later l =
             let ww : c.w ≤ e.w = omega (arith, ia, ib, ap (λ (x : ℕ). x * V) l) in
-            elim (order (2 * c.w) V) [
-              | inl x ↦ omega (arith, ua, raise_less V c.n (2 * c.w) x)
+            elim (cases_order (2 * c.w) V) [
+              | inr (inl x) ↦ omega (arith, ua, raise_less V c.n (2 * c.w) x)
               | inr (inr x) ↦ omega (arith, u_few a (rn a) c, ub, raise_more V e.n (2 * e.w) (omega arith))
-              | inr (inl x) ↦ elim (cases_lt V (2 * e.w)) [
+              | inl x ↦ elim (cases_lt V (2 * e.w)) [
                 | inl y ↦ omega (arith, u_few a (rn a) c, ub, raise_more V e.n (2 * e.w) y)
                 | inr y ↦ omega (
                   arith,
@@ -252,7 +250,7 @@ module _ (β B : ℕ) (two : 2 ≤ β) (one : 1 ≤ B) where
               | inl g ↦
                   let m : β * B * β ^ suc c.k ≤ β * B * β ^ e.k =
                   mul-le-mul_left (β * B) (unit_le (suc c.k) e.k g) in
-                  omega (arith, v_high a (rn a) c, v_low b (rn b) e, ap (λ (x : ℕ). B * x) (power_next β e.k))
+                  omega (arith, v_high a (rn a) c, v_low b (rn b) e, ap (λ (x : ℕ). B * x) (pow-succ' β e.k))
               | inr g ↦ same_unit a b (β ^ suc c.k) h c e refl
                   (ap (λ (x : ℕ). β ^ suc x) (equal c.k e.k kk g))
             ]
@@ -285,9 +283,9 @@ module _ (β B : ℕ) (two : 2 ≤ β) (one : 1 ≤ B) where
         let i : t ≡ c.n * W + c.w = c.is ∙ ap (λ (x : ℕ). c.n * β ^ suc x + c.w) e in
         let wl : c.w < W = subst (λ (x : ℕ). c.w < β ^ suc x) e c.w_lt in (
           e,
-          elim (order c.n n) [
-            | inl l ↦ absurd (omega (arith, mul-le-mul_right {m = c.n + 1} {n = n} W (omega arith)))
-            | inr (inl l) ↦ l
+          elim (cases_order c.n n) [
+            | inr (inl l) ↦ absurd (omega (arith, mul-le-mul_right {m = c.n + 1} {n = n} W (omega arith)))
+            | inl l ↦ l
             | inr (inr l) ↦ absurd (omega (arith, mul-le-mul_right {m = n + 1} {n = c.n} W (omega arith)))
           ],
         )

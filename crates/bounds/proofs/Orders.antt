@@ -1,8 +1,8 @@
 -- An accepted four is accepted in any order, and with an operand's sign turned.
-use Rattle.std.proofs.Common.{◌≡◌, ℕ, ◌-◌, ◌^◌, ◌<◌, Bool, true, cond, ◌&&◌, eqb, ltb, leb, nat_abs, Some, None}
-use Rattle.std.proofs.Common.{Option, ap, ◌∙◌, inl, inr, arith}
+use Rattle.std.proofs.Common.{◌≡◌, ℕ, ◌-◌, ◌^◌, ◌<◌, Bool, true, cond, ◌&&◌, ◌==◌, nat_lt, nat_le, unsigned_abs, Some}
+use Rattle.std.proofs.Common.{None, Option, ap, ◌∙◌, inl, inr, arith}
 use Rattle.std.proofs.lemmas.Bool.Decides.{nat_tests}
-use Rattle.whole.proofs.Integers.{nat_abs_neg}
+use Rattle.whole.proofs.Integers.{unsigned_abs_neg}
 use Rattle.rounding.specs.declared.Figure.{Figure}
 use Rattle.rounding.specs.declared.Refusal.TheVariants.{OperandNoFigure, OperandRange}
 use Rattle.rounding.specs.Operations.{reaches}
@@ -37,8 +37,8 @@ together β p a b c d ea eb ec ed =
 -- the sign plays no part in the test
 fault_opposite : (β p : ℕ) (f : Figure) → fault β p (opposite f) ≡ fault β p f
 fault_opposite β p f = ap (λ (s : ℕ).
-    cond (cond (eqb s 0) (eqb (nat_abs f.q) 0) (leb (β ^ (p - 1)) s && (ltb s (β ^ p) && reaches 2000 f)))
-    (cond (reaches 200 f) None (Some (number OperandRange))) (Some (number OperandNoFigure))) (nat_abs_neg f.s)
+    cond (cond (s == 0) (unsigned_abs f.q == 0) (nat_le (β ^ (p - 1)) s && (nat_lt s (β ^ p) && reaches 2000 f)))
+    (cond (reaches 200 f) None (Some (number OperandRange))) (Some (number OperandNoFigure))) (unsigned_abs_neg f.s)
 
 module _ (β p : ℕ) (kind : IsKind β p) (a b c d : Figure) (accepted : Accepted β p a b c d) where
   all : Faultless β p a b c d
@@ -49,13 +49,13 @@ module _ (β p : ℕ) (kind : IsKind β p) (a b c d : Figure) (accepted : Accept
 
   pub flipped_opposite : flipped b ≡ opposite b
   flipped_opposite =
-      let small : nat_abs b.s < 2 ^ 31 = word in
-      let t : ltb (nat_abs b.s) (2 ^ 31) ≡ true = grind (arith, nat_tests) in
+      let small : unsigned_abs b.s < 2 ^ 31 = word in
+      let t : nat_lt (unsigned_abs b.s) (2 ^ 31) ≡ true = grind (arith, nat_tests) in
       ap (λ (x : Bool). cond x (opposite b) b) t
     where
-      word : nat_abs b.s < 2 ^ 31
+      word : unsigned_abs b.s < 2 ^ 31
       word = elim (normal_of β p b (four β p a b c d accepted).b_in.figure) [
-        | inl z ↦ omega (arith, ap nat_abs z.0)
+        | inl z ↦ omega (arith, ap unsigned_abs z.0)
         | inr n ↦ omega (arith, n.1, kind.3)
       ]
 

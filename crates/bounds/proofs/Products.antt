@@ -1,12 +1,11 @@
 -- A product of two figures, its rounding, and its error, which is kept whole by a further rounding.
-use Rattle.std.proofs.Common.{◌≡◌, ℕ, suc, ◌+◌, ◌*◌, ◌^◌, ◌≤◌, ◌⊎◌, ℤ, pos, negsuc, ◌-ℤ◌, neg_ℤ, nat_abs, ◌≤ℤ◌, sym}
-use Rattle.std.proofs.Common.{ap, ◌∙◌, subst, inl, inr, mul-le-mul_right, arith, pow-add}
+use Rattle.std.proofs.Common.{◌≡◌, ℕ, suc, ◌+◌, ◌*◌, ◌^◌, ◌≤◌, ◌⊎◌, ℤ, pos, negsuc, ◌-ℤ◌, neg_ℤ, unsigned_abs, ◌≤ℤ◌}
+use Rattle.std.proofs.Common.{sym, ap, ◌∙◌, subst, inl, inr, mul-le-mul_right, arith, pow-add}
 use Prim.Native.Nat.{◌∣◌}
-use native.Mathlib.Nat.{dvd_trans, dvd-mul_left}
+use native.Mathlib.Nat.{dvd_trans, dvd-mul_left, pow-succ'}
 use borrow.Author.Differences.{ints}
 use Rattle.std.proofs.lemmas.Bool.{cases_lt}
-use Rattle.whole.proofs.Integers.{nat_abs_neg}
-use Rattle.whole.proofs.Powers.{power_next}
+use Rattle.whole.proofs.Integers.{unsigned_abs_neg}
 use Rattle.bounds.proofs.Divisors.{divides_sum, divides_power}
 use Rattle.bounds.proofs.Laws.{Ground, Laws}
 use Rattle.bounds.proofs.Steps.{zero_fixed}
@@ -14,9 +13,9 @@ use Rattle.bounds.proofs.Steps.{zero_fixed}
 module _ (β B : ℕ) (ground : Ground β B) where
   -- a product of two significands in the grain β^i; zero is none
   pub record Product (X : ℤ) (i : ℕ) : Type 0 where
-    pub grain : β ^ i ∣ nat_abs X
-    pub most : nat_abs X ≤ ground.c * ground.c * β ^ i
-    pub least : B * B * β ^ i ≤ nat_abs X
+    pub grain : β ^ i ∣ unsigned_abs X
+    pub most : unsigned_abs X ≤ ground.c * ground.c * β ^ i
+    pub least : B * B * β ^ i ≤ unsigned_abs X
 
   -- zero, or such a product
   abbrev pub Term : ℤ → ℕ → Type 0
@@ -29,37 +28,37 @@ module _ (β B : ℕ) (ground : Ground β B) where
     -- the product X in the grain β^i, with its unit β^k: its rounding and its error
     pub record Parts (X : ℤ) (i : ℕ) : Type 0 where
       pub k : ℕ
-      pub most : nat_abs X ≤ ground.c * ground.c * β ^ i
-      pub lo : B * β ^ k ≤ nat_abs X
+      pub most : unsigned_abs X ≤ ground.c * ground.c * β ^ i
+      pub lo : B * β ^ k ≤ unsigned_abs X
       pub unit_le : β ^ k ≤ β * B * β ^ i
-      pub multiple : β ^ k ∣ nat_abs (rn X)
-      pub rounded_lo : B * β ^ k ≤ nat_abs (rn X)
-      pub rounded_hi : nat_abs (rn X) ≤ β * B * β ^ k
-      pub error_half : 2 * nat_abs (X -ℤ rn X) ≤ β ^ k
-      pub error_grain : β ^ i ∣ nat_abs (X -ℤ rn X)
+      pub multiple : β ^ k ∣ unsigned_abs (rn X)
+      pub rounded_lo : B * β ^ k ≤ unsigned_abs (rn X)
+      pub rounded_hi : unsigned_abs (rn X) ≤ β * B * β ^ k
+      pub error_half : 2 * unsigned_abs (X -ℤ rn X) ≤ β ^ k
+      pub error_grain : β ^ i ∣ unsigned_abs (X -ℤ rn X)
       pub error_kept : rn (X -ℤ rn X) ≡ X -ℤ rn X
 
     -- a number that is kept is not crossed by any rounding
-    size_turned : (t : ℕ) → nat_abs (rn (pos (suc t))) ≡ nat_abs (rn (negsuc t))
-    size_turned t = ap nat_abs (law.odd (negsuc t)) ∙ nat_abs_neg (rn (negsuc t))
+    size_turned : (t : ℕ) → unsigned_abs (rn (pos (suc t))) ≡ unsigned_abs (rn (negsuc t))
+    size_turned t = ap unsigned_abs (law.odd (negsuc t)) ∙ unsigned_abs_neg (rn (negsuc t))
 
-    not_below : (t : ℤ) (m : ℕ) → rn (pos m) ≡ pos m → m ≤ nat_abs t → m ≤ nat_abs (rn t)
+    not_below : (t : ℤ) (m : ℕ) → rn (pos m) ≡ pos m → m ≤ unsigned_abs t → m ≤ unsigned_abs (rn t)
     not_below t m f = go t
       where
-        up : (n : ℕ) → m ≤ n → m ≤ nat_abs (rn (pos n))
+        up : (n : ℕ) → m ≤ n → m ≤ unsigned_abs (rn (pos n))
         up n h =
             let a : pos m ≤ℤ rn (pos n) = subst (λ (z : ℤ). z ≤ℤ rn (pos n)) f
             (law.ordered (pos m) (pos n) (omega (arith, ints))) in
             omega (arith, ints)
 
-        go : (t : ℤ) → m ≤ nat_abs t → m ≤ nat_abs (rn t)
+        go : (t : ℤ) → m ≤ unsigned_abs t → m ≤ unsigned_abs (rn t)
         go (pos n) h = up n h
         go (negsuc n) h = omega (arith, up (suc n) h, size_turned n)
 
-    not_above : (t : ℤ) (m : ℕ) → rn (pos m) ≡ pos m → nat_abs t ≤ m → nat_abs (rn t) ≤ m
+    not_above : (t : ℤ) (m : ℕ) → rn (pos m) ≡ pos m → unsigned_abs t ≤ m → unsigned_abs (rn t) ≤ m
     not_above t m f = go t
       where
-        down : (n : ℕ) → n ≤ m → nat_abs (rn (pos n)) ≤ m
+        down : (n : ℕ) → n ≤ m → unsigned_abs (rn (pos n)) ≤ m
         down n h =
             let a : rn (pos n) ≤ℤ pos m = subst (λ (z : ℤ). rn (pos n) ≤ℤ z) f
             (law.ordered (pos n) (pos m) (omega (arith, ints))) in
@@ -67,18 +66,18 @@ module _ (β B : ℕ) (ground : Ground β B) where
             (law.ordered (pos 0) (pos n) (omega (arith, ints))) in
             omega (arith, ints)
 
-        go : (t : ℤ) → nat_abs t ≤ m → nat_abs (rn t) ≤ m
+        go : (t : ℤ) → unsigned_abs t ≤ m → unsigned_abs (rn t) ≤ m
         go (pos n) h = down n h
         go (negsuc n) h = omega (arith, down (suc n) h, size_turned n)
 
     -- with the unit β^k known
-    parts_at : (X : ℤ) (i k : ℕ) → Product X i → B * β ^ k ≤ nat_abs X → nat_abs X ≤ β * B * β ^ k → i ≤ k
+    parts_at : (X : ℤ) (i k : ℕ) → Product X i → B * β ^ k ≤ unsigned_abs X → unsigned_abs X ≤ β * B * β ^ k → i ≤ k
         → β ^ k ≤ β * B * β ^ i → Parts X i
     parts_at X i k p lo hi ik near =
-        let multiple : β ^ k ∣ nat_abs (rn X) = law.multiple X k lo in
-        let half : 2 * nat_abs (X -ℤ rn X) ≤ β ^ k = let a = law.half X k hi in omega (arith, ints) in
-        let grain : β ^ i ∣ nat_abs (X -ℤ rn X) = divides_sum (β ^ i) X (neg_ℤ (rn X)) p.grain
-        (subst (λ (n : ℕ). β ^ i ∣ n) (sym (nat_abs_neg (rn X)))
+        let multiple : β ^ k ∣ unsigned_abs (rn X) = law.multiple X k lo in
+        let half : 2 * unsigned_abs (X -ℤ rn X) ≤ β ^ k = let a = law.half X k hi in omega (arith, ints) in
+        let grain : β ^ i ∣ unsigned_abs (X -ℤ rn X) = divides_sum (β ^ i) X (neg_ℤ (rn X)) p.grain
+        (subst (λ (n : ℕ). β ^ i ∣ n) (sym (unsigned_abs_neg (rn X)))
         (dvd_trans (β ^ i) (divides_power β i k ik) multiple)) in
         let edge : rn (pos (B * β ^ k)) ≡ pos (B * β ^ k) = law.fixed (pos (B * β ^ k)) k (dvd-mul_left (β ^ k) B)
         (omega (arith, mul-le-mul_right (B * β ^ k) two)) in
@@ -104,8 +103,8 @@ module _ (β B : ℕ) (ground : Ground β B) where
         let g : ℕ = β ^ i in
         let u : β ^ (q + i) ≡ B * g = pow-add β q i ∙ ap (λ (n : ℕ). n * g) (sym ground.power) in
         let v : β ^ suc (q + i) ≡ β * (B * g) =
-        power_next β (q + i) ∙ ap (λ (n : ℕ). β * n) u in
-        elim (cases_lt (β * B * β ^ (q + i)) (nat_abs X)) [
+        pow-succ' β (q + i) ∙ ap (λ (n : ℕ). β * n) u in
+        elim (cases_lt (β * B * β ^ (q + i)) (unsigned_abs X)) [
           | inr a ↦ parts_at X i (q + i) p (omega (arith, p.least, ap (λ (n : ℕ). B * n) u)) a (omega arith)
               (omega (arith, mul-le-mul_right (B * g) two))
           | inl a ↦ parts_at X i (suc (q + i)) p

@@ -1,13 +1,13 @@
 -- Rounding to p digits on whole numbers, and that a rounded figure, counted in fine units, is the rounded count.
 use Rattle.std.proofs.Common.{◌≡◌, ℕ, zero, suc, ◌+◌, ◌-◌, ◌*◌, ◌/◌, ◌%◌, ◌^◌, ◌<◌, ◌≤◌, Bool, true, false, ◌⊎◌, ℤ}
-use Rattle.std.proofs.Common.{pos, ◌-ℤ◌, ◌*ℤ◌, nat_abs, ◌≤ℤ◌, sym, refl, ap, ◌∙◌, subst, ap₂, inl, inr, mod-lt}
+use Rattle.std.proofs.Common.{pos, ◌-ℤ◌, ◌*ℤ◌, unsigned_abs, ◌≤ℤ◌, sym, refl, ap, ◌∙◌, subst, ap₂, inl, inr, mod-lt}
 use Rattle.std.proofs.Common.{mul-le-mul, div-add-mod', mul-one, div-one, arith}
-use native.Mathlib.Nat.{pow-zero, mod-one}
+use native.Mathlib.Nat.{pow-zero, mod-one, sub-add_cancel}
 use lib.IntN.{zero-*ℤ}
 use Rattle.std.proofs.lemmas.Bool.{cases_lt}
+use Rattle.std.proofs.lemmas.Nat.{same_from_place}
 use Rattle.whole.proofs.Comparisons.{size_zero}
 use Rattle.whole.proofs.Powers.{power_pos, power_le, power_order, power_split, power_parts, power_even, power_one}
-use Rattle.whole.proofs.Quotients.{same_quotient}
 use Rattle.rounding.specs.declared.Figure.{Figure}
 use Rattle.rounding.specs.Exact.{Exact, value, units}
 use Rattle.rounding.specs.Digits.{digits}
@@ -42,8 +42,8 @@ module _ (β p : ℕ) (even : β % 2 ≡ 0) (two : 2 ≤ β) (some : 2 ≤ p) wh
       (place_lo β p two one (β ^ l) T d w b place))
       (subst (λ (n : ℕ). T < n) (sym (power_parts β p l (p + l) refl)) (place_hi β p two one (β ^ l) T d w b place)) in
       let drop : digits β T - p ≡ l = omega (arith, long) in
-      let parts = same_quotient (β ^ l) (T / β ^ l) (T % β ^ l) d w (div-add-mod' T (β ^ l) ∙ place.is)
-      (mod-lt T (power_pos β l two)) place.w_lt in
+      let parts = same_from_place (T / β ^ l) (T % β ^ l) d w (β ^ l) (mod-lt T (power_pos β l two)) place.w_lt
+      (div-add-mod' T (β ^ l) ∙ place.is) in
       ap (λ (j : ℕ). quotient (β ^ j) T * β ^ j) drop
       ∙ ap (λ (s : ℕ). s * β ^ l) (ap₂ (λ (x y : ℕ). x + raise (β ^ l) x (2 * y)) parts.0 parts.1
       ∙ ap (λ (u : ℕ). d + u) (sym place.raised))
@@ -114,11 +114,8 @@ module _ (β p : ℕ) (even : β % 2 ≡ 0) (two : 2 ≤ β) (some : 2 ≤ p) wh
     eight = omega (arith, large);
     wide = omega (arith, power_le β 1 (p - 1) two (omega arith), power_one β);
     c = β ^ p - 1;
-    top = sym (power_split β p one) ∙ whole (β ^ p) (power_pos β p two);
+    top = sym (power_split β p one) ∙ sym (sub-add_cancel (power_pos β p two));
   }
-    where
-      whole : (P : ℕ) → 1 ≤ P → P ≡ P - 1 + 1
-      whole P h = omega arith
 
   near_signed : (neg : Bool) (T : ℕ) → 0 < T → near_z β p (signed neg T) ≡ signed neg (near β p T)
   near_signed false T h = refl
@@ -128,19 +125,19 @@ module _ (β p : ℕ) (even : β % 2 ≡ 0) (two : 2 ≤ β) (some : 2 ≤ p) wh
   -- in units as fine as the widened digits, the rounded figure of x is the rounded count of x
   pub units_rounded : (x : Exact) (k : ℤ) → k ≤ℤ (x.e -ℤ pos (p - 1))
       → units β k (value (rounded β p x)) ≡ near_z β p (units β k x)
-  units_rounded x k fine = elim (cases_lt 0 (nat_abs x.m)) [
+  units_rounded x k fine = elim (cases_lt 0 (unsigned_abs x.m)) [
     | inl full ↦ (
         let s : Seen β p x (rounded β p x) k = seen β p even two some x full k fine in
-        let T : ℕ = nat_abs x.m * β ^ nat_abs (x.e -ℤ k) in
-        let T_pos : 0 < T = omega (arith, mul-le-mul full (power_pos β (nat_abs (x.e -ℤ k)) two)) in
+        let T : ℕ = unsigned_abs x.m * β ^ unsigned_abs (x.e -ℤ k) in
+        let T_pos : 0 < T = omega (arith, mul-le-mul full (power_pos β (unsigned_abs (x.e -ℤ k)) two)) in
         s.is ∙ ap (signed (negative x.m)) (sym (near_place T s.l s.d s.w s.b s.place))
         ∙ sym (near_signed (negative x.m) T T_pos)
-        ∙ ap (near_z β p) (sym (own_sign x.m (β ^ nat_abs (x.e -ℤ k)))))
+        ∙ ap (near_z β p) (sym (own_sign x.m (β ^ unsigned_abs (x.e -ℤ k)))))
     | inr none ↦ (
-        let z : nat_abs x.m ≡ 0 = omega arith in
+        let z : unsigned_abs x.m ≡ 0 = omega arith in
         let m : x.m ≡ pos 0 = size_zero x.m z in
-        let u : units β k x ≡ pos 0 = ap (λ (n : ℤ). n *ℤ pos (β ^ nat_abs (x.e -ℤ k))) m
-        ∙ zero-*ℤ (pos (β ^ nat_abs (x.e -ℤ k))) in
-        ap (λ (f : Figure). units β k (value f)) (rounded_zero β p x z) ∙ zero-*ℤ (pos (β ^ nat_abs (pos 0 -ℤ k)))
+        let u : units β k x ≡ pos 0 = ap (λ (n : ℤ). n *ℤ pos (β ^ unsigned_abs (x.e -ℤ k))) m
+        ∙ zero-*ℤ (pos (β ^ unsigned_abs (x.e -ℤ k))) in
+        ap (λ (f : Figure). units β k (value f)) (rounded_zero β p x z) ∙ zero-*ℤ (pos (β ^ unsigned_abs (pos 0 -ℤ k)))
         ∙ sym (ap pos (near_small 0 (power_pos β p two))) ∙ ap (near_z β p) (sym u))
   ]

@@ -1,14 +1,14 @@
 -- What an outcome, a refusal or a value, says of the fault that decided it.
-use Rattle.std.proofs.Common.{◌≡◌, ℕ, Some, None, Ok, Err, Option, Result, refl, arith}
+use Rattle.std.proofs.Common.{◌≡◌, ℕ, Some, None, Ok, Err, Option, Result, refl}
 use Rattle.rounding.specs.Refusals.{unless, kept}
 
 pub refused : {X : Type 0} (o : Option ℕ) (x : X) (n : ℕ) → ◌≡◌ {A = Result X ℕ} (Err n) (unless o x) → o ≡ Some n
 refused (Some e) x n h = cc
-refused None x n h = absurd (let z : ◌≡◌ {A = ℕ} 0 1 = cc in omega arith)
+refused None x n h = cc
 
 pub answered : {X : Type 0} (o : Option ℕ) (x y : X) → ◌≡◌ {A = Result X ℕ} (Ok y) (unless o x)
     → (o ≡ None) × (y ≡ x)
-answered (Some e) x y h = absurd (let z : ◌≡◌ {A = ℕ} 0 1 = cc in omega arith)
+answered (Some e) x y h = cc
 answered None x y h = (refl, cc)
 
 -- another call with the same fault is refused alike, and leaves the state as it was

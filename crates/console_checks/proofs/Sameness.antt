@@ -1,6 +1,7 @@
 -- What compares as equal is the same: refusals, answers, and results of both.
-use Rattle.std.proofs.Common.{◌≡◌, Bool, true, false, ◌&&◌, Ok, Err, Result, nat_eq, rules, ap, sym, refl}
+use Rattle.std.proofs.Common.{◌≡◌, true, ◌&&◌, Ok, Err, Result, nat_eq, rules, ap, sym}
 use Rattle.std.specs.Result.{result_eq}
+use Rattle.std.proofs.lemmas.Bool.{and_parts}
 use Rattle.rounding.specs.declared.Refusal.{Refusal}
 use Rattle.rounding.specs.contracts.RefusalPartialEq.TheImpl.{eq-value as refusals_equal}
 use Rattle.rounding.specs.declared.Figure.{Figure}
@@ -14,10 +15,6 @@ use Rattle.runs.specs.contracts.AnswerPartialEq.TheImpl.{eq-value as answers_equ
 same_refusal : (e f : Refusal) → refusals_equal.it e f ≡ true → e ≡ f
 same_refusal e f h = search rules
 
-both : (a b : Bool) → (a && b) ≡ true → (a ≡ true) × (b ≡ true)
-both true b h = (refl, h)
-both false b h = cc
-
 same_figure : (f g : Figure) → figures_equal.it f g ≡ true → f ≡ g
 same_figure f g h = search rules
 
@@ -25,8 +22,8 @@ pub same_reading : (r s : Reading) → readings_equal.it r s ≡ true → r ≡ 
 same_reading r s h =
     let real_is = figures_equal.it r.real s.real in
     let imaginary_is = figures_equal.it r.imaginary s.imaginary in
-    let parts = both (nat_eq r.count s.count) (real_is && imaginary_is) h in
-    let figures = both real_is imaginary_is parts.1 in
+    let parts = and_parts (nat_eq r.count s.count) (real_is && imaginary_is) h in
+    let figures = and_parts real_is imaginary_is parts.1 in
     let count : r.count ≡ s.count = search (rules, parts.0) in
     let real = same_figure r.real s.real figures.0 in
     let imaginary = same_figure r.imaginary s.imaginary figures.1 in
@@ -35,7 +32,7 @@ same_reading r s h =
 same_answer : (x y : Answer) → answers_equal.it x y ≡ true → x ≡ y
 same_answer (Value f) y h = search rules
 same_answer (Parts f g) (Parts k l) h =
-    let e = both (figures_equal.it f k) (figures_equal.it g l) h in
+    let e = and_parts (figures_equal.it f k) (figures_equal.it g l) h in
     cc (same_figure f k e.0, same_figure g l e.1)
 same_answer (Parts f g) (Value k) h = cc
 same_answer (Parts f g) (Count n) h = cc

@@ -1,5 +1,5 @@
 -- What it says that nothing was at fault with a call.
-use Rattle.std.proofs.Common.{◌≡◌, ℕ, ◌<◌, Bool, true, false, cond, ltb, Some, None, refl, ap₂, arith}
+use Rattle.std.proofs.Common.{◌≡◌, ℕ, ◌<◌, Bool, true, false, cond, nat_lt, Some, None, refl, ap₂, arith}
 use Rattle.std.proofs.lemmas.Bool.Decides.{nat_tests}
 use Rattle.rounding.specs.declared.Figure.{Figure}
 use Rattle.rounding.specs.declared.Refusal.TheVariants.{OperandNoFigure, OperandRange}
@@ -15,10 +15,10 @@ use Rattle.lanes.specs.Turning.{no_lane, full, far, strayed, lane_fault}
 -- a test that names a fault unless it holds
 passed : (b : Bool) (n : ℕ) → cond b None (Some n) ≡ None → b ≡ true
 passed true n h = refl
-passed false n h = absurd (let z : ◌≡◌ {A = ℕ} 0 1 = cc in omega arith)
+passed false n h = cc
 
 pub lane_there : (i : ℕ) → no_lane i ≡ None → i < 10
-lane_there i h = let t : ltb i 10 ≡ true = passed (ltb i 10) _ h in grind (arith, nat_tests)
+lane_there i h = let t : nat_lt i 10 ≡ true = passed (nat_lt i 10) _ h in grind (arith, nat_tests)
 
 -- a figure of the kind that has not strayed is one that a method accepts
 near_accepted : (β p : ℕ) (f : Figure) → is_figure β p f ≡ true → far f ≡ None → fault β p f ≡ None

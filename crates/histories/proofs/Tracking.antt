@@ -1,7 +1,7 @@
 -- The lanes of a new console track the empty history, and every call keeps track.
-use Rattle.std.proofs.Common.{◌≡◌, ℕ, ◌+◌, ◌<◌, Bool, true, false, cond, eqb, ltb, ◌≢◌, List, [], ◌∷◌, length, set}
-use Rattle.std.proofs.Common.{replicate, Some, None, Option, sym, refl, ap, ◌∙◌, subst, ⊎_elim, arith, length-set}
-use Rattle.std.proofs.Common.{get_or-set_other, get_or-set_same}
+use Rattle.std.proofs.Common.{◌≡◌, ℕ, ◌+◌, ◌<◌, Bool, true, false, cond, if◌then◌else◌, ◌==◌, nat_lt, ◌≢◌, List, []}
+use Rattle.std.proofs.Common.{◌∷◌, length, set, replicate, Some, None, Option, sym, refl, ap, ◌∙◌, subst, ⊎_elim}
+use Rattle.std.proofs.Common.{arith, length-set, get_or-set_other, get_or-set_same}
 use lib.ListN.{get_or-replicate}
 use Rattle.std.proofs.lemmas.Bool.Decides.{eqb_tells, nat_tests}
 use Rattle.rounding.specs.declared.Figure.{Figure}
@@ -62,30 +62,29 @@ module _ (β p : ℕ) (kind : IsKind β p) (N D : ℕ) where
   -- the lane j is replaced by one that tracks its course, moved by f
   replaced : (ls : List Lane) (j : ℕ) (l : Lane) (f : Course → Course) (h : History) → j < 10
       → TrackHistory β p N D h ls → Tracks β p N D (f (course β j h)) l
-      → (i : ℕ) → i < 10 → Tracks β p N D (cond (eqb i j) (f (course β i h)) (course β i h)) (at (put ls j l) i)
+      → (i : ℕ) → i < 10 → Tracks β p N D (if i == j then f (course β i h) else course β i h) (at (put ls j l) i)
   replaced ls j l f h there track new i lt = subst
-      (λ (ms : List Lane). Tracks β p N D (cond (eqb i j) (f (course β i h)) (course β i h)) (at ms i))
+      (λ (ms : List Lane). Tracks β p N D (if i == j then f (course β i h) else course β i h) (at ms i))
       (sym (put_is ls j l there)) (⊎_elim same other (eqb_tells i j))
     where
       put_is : (ls : List Lane) (j : ℕ) (l : Lane) → j < 10 → put ls j l ≡ set ls j l
       put_is ls j l there =
-          let t : ltb j 10 ≡ true = grind (arith, nat_tests) in ap (λ (b : Bool). cond b (set ls j l) ls) t
+          let t : nat_lt j 10 ≡ true = grind (arith, nat_tests) in ap (λ (b : Bool). cond b (set ls j l) ls) t
 
-      same : ((eqb i j ≡ true) × (i ≡ j))
-          → Tracks β p N D (cond (eqb i j) (f (course β i h)) (course β i h)) (at (set ls j l) i)
+      same : ((i == j) ≡ true) × (i ≡ j) → Tracks β p N D (if i == j then f (course β i h) else course β i h) (at (set ls j l) i)
       same e =
           let ten = track.ten in
           let inside : j < length ls = omega arith in
           rw (e.0, e.1, get_or-set_same) new
 
-      other : ((eqb i j ≡ false) × (i ≡ j → ⊥))
-          → Tracks β p N D (cond (eqb i j) (f (course β i h)) (course β i h)) (at (set ls j l) i)
+      other : ((i == j) ≡ false) × (i ≡ j → ⊥)
+          → Tracks β p N D (if i == j then f (course β i h) else course β i h) (at (set ls j l) i)
       other e =
           let apart : i ≢ j = e.1 in
           rw (e.0, get_or-set_other) (track.each i lt)
 
   ten_put : (ls : List Lane) (j : ℕ) (l : Lane) → length ls ≡ 10 → length (put ls j l) ≡ 10
-  ten_put ls j l ten = elim (ltb j 10) as (λ (b : Bool). length (cond b (set ls j l) ls) ≡ 10) [
+  ten_put ls j l ten = elim (nat_lt j 10) as (λ (b : Bool). length (cond b (set ls j l) ls) ≡ 10) [
     | true ↦ length-set ls j l ∙ ten
     | false ↦ ten
   ]

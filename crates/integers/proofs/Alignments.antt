@@ -1,8 +1,9 @@
 -- Two terms brought to one power stand for their exact sum.
-use Rattle.std.proofs.Common.{◌≡◌, ℕ, ◌+◌, ◌-◌, ◌*◌, ◌/◌, ◌%◌, ◌^◌, ◌<◌, ◌≤◌, Bool, true, false, eqb, ◌⊎◌, ℤ}
-use Rattle.std.proofs.Common.{pos, ◌+ℤ◌, ◌-ℤ◌, nat_abs, ◌≤ℤ◌, sym, refl, ap, ◌∙◌, subst, ap₂, inl, inr}
+use Rattle.std.proofs.Common.{◌≡◌, ℕ, ◌+◌, ◌-◌, ◌*◌, ◌/◌, ◌%◌, ◌^◌, ◌<◌, ◌≤◌, Bool, true, false, ◌==◌, ◌⊎◌, ℤ, pos}
+use Rattle.std.proofs.Common.{◌+ℤ◌, ◌-ℤ◌, unsigned_abs, ◌≤ℤ◌, sym, refl, ap, ◌∙◌, subst, ap₂, inl, inr}
 use Rattle.std.proofs.Common.{mul-le-mul_right, mod-lt, mul-le-mul_left, div-add-mod', mul-one, mul_left_comm, arith}
-use native.Mathlib.Nat.{pow-zero}
+use native.Mathlib.Nat.{pow-zero, zero-mul}
+use lib.IntN.{+ℤ_idr}
 use borrow.Author.Differences.{ints}
 use Rattle.std.specs.Int.{int_min}
 use Rattle.std.proofs.lemmas.Int.{clamps}
@@ -20,7 +21,7 @@ use Rattle.integers.specs.declared.terms.Term.{Term}
 use Rattle.integers.specs.Terms.{Truncation, IsAddend, worth, lifted, exact}
 use Rattle.integers.specs.Rounding.{nearest_figure}
 use Rattle.integers.specs.Sums.{rise, aligned_at, aligned_sum}
-use Rattle.integers.proofs.Truncations.{Stands, clash}
+use Rattle.integers.proofs.Truncations.{Stands}
 use Rattle.integers.proofs.Rises.{Rise, rise_of, below_double}
 use Rattle.integers.proofs.Joins.{Joined, joined}
 use Rattle.integers.proofs.Rounds.{nearest_rounds}
@@ -28,7 +29,7 @@ use Rattle.integers.proofs.Rounds.{nearest_rounds}
 -- h and l added at the exponent of l
 abbrev lowered : ℕ → Term → Term → Exact
 lowered β h l = record {
-  m = signed h.negative (h.size * β ^ nat_abs (h.exponent -ℤ l.exponent)) +ℤ signed l.negative l.size;
+  m = signed h.negative (h.size * β ^ unsigned_abs (h.exponent -ℤ l.exponent)) +ℤ signed l.negative l.size;
   e = l.exponent;
 }
 
@@ -38,8 +39,8 @@ lowered_plus β h l le =
     sym (ap (λ (w : ℤ). record { m = units β w (worth h) +ℤ units β w (worth l); e = w })
     (lower h.exponent l.exponent le)
     ∙ ap₂ (λ (a b : ℤ). record { m = a +ℤ b; e = l.exponent })
-    (signed_times h.negative h.size (β ^ nat_abs (h.exponent -ℤ l.exponent)))
-    (signed_times l.negative l.size (β ^ nat_abs (l.exponent -ℤ l.exponent))
+    (signed_times h.negative h.size (β ^ unsigned_abs (h.exponent -ℤ l.exponent)))
+    (signed_times l.negative l.size (β ^ unsigned_abs (l.exponent -ℤ l.exponent))
     ∙ ap (signed l.negative) (ap (λ (k : ℕ). l.size * β ^ k) (size_same l.exponent)
     ∙ ap (λ (k : ℕ). l.size * k) (pow-zero β) ∙ mul-one l.size)))
   where
@@ -93,18 +94,16 @@ module _ (β p : ℕ) (kind : IsKind β p) (h l : Term) (le : l.exponent ≤ℤ 
     rest = 0;
     low = 0;
     is = ap (λ (m : ℕ). signed h.negative m +ℤ signed l.negative l.size)
-        (none h.size (β ^ nat_abs (h.exponent -ℤ l.exponent)) z)
+        (ap (λ (m : ℕ). m * β ^ unsigned_abs (h.exponent -ℤ l.exponent)) z
+        ∙ zero-mul (β ^ unsigned_abs (h.exponent -ℤ l.exponent)))
         ∙ gone h.negative l.negative l.size ∙ ap (signed l.negative) (whole (β ^ 0) (pow-zero β));
     less = power_pos β 0 two;
-    place = stays l.exponent;
+    place = sym (+ℤ_idr l.exponent);
     none = λ _. refl;
-    some = λ e. clash e;
-    large = λ e. clash e;
+    some = λ e. cc;
+    large = λ e. cc;
   }
     where
-      none : (n E : ℕ) → n ≡ 0 → n * E ≡ 0
-      none n E e = omega (arith, ap (λ (m : ℕ). m * E) e)
-
       gone : (a b : Bool) (n : ℕ) → signed a 0 +ℤ signed b n ≡ signed b n
       gone true true n = omega (arith, ints)
       gone true false n = omega (arith, ints)
@@ -114,12 +113,9 @@ module _ (β p : ℕ) (kind : IsKind β p) (h l : Term) (le : l.exponent ≤ℤ 
       whole : (E : ℕ) → E ≡ 1 → l.size ≡ E * l.size + 0
       whole E e = omega (arith, ap (λ (m : ℕ). m * l.size) e)
 
-      stays : (e : ℤ) → e ≡ e +ℤ pos 0
-      stays e = omega (arith, ints)
-
   -- h is brought up by i digits, and what lies below is less than a unit there
-  risen_stands : (i : ℕ) → Rise β p h.size (nat_abs (h.exponent -ℤ l.exponent)) i → l.size < β ^ (2 * p)
-      → Stands β p (lowered β h l) (aligned_at β h l (nat_abs (h.exponent -ℤ l.exponent)) i)
+  risen_stands : (i : ℕ) → Rise β p h.size (unsigned_abs (h.exponent -ℤ l.exponent)) i → l.size < β ^ (2 * p)
+      → Stands β p (lowered β h l) (aligned_at β h l (unsigned_abs (h.exponent -ℤ l.exponent)) i)
   risen_stands i up short =
       let s = j.sum K (mod-lt l.size K_pos) in
       record {
@@ -136,16 +132,16 @@ module _ (β p : ℕ) (kind : IsKind β p) (h l : Term) (le : l.exponent ≤ℤ 
       }
     where
       d : ℕ
-      d = nat_abs (h.exponent -ℤ l.exponent)
+      d = unsigned_abs (h.exponent -ℤ l.exponent)
 
       K : ℕ
-      K = β ^ (nat_abs (h.exponent -ℤ l.exponent) - i)
+      K = β ^ (unsigned_abs (h.exponent -ℤ l.exponent) - i)
 
-      K_pos : 1 ≤ β ^ (nat_abs (h.exponent -ℤ l.exponent) - i)
-      K_pos = power_pos β (nat_abs (h.exponent -ℤ l.exponent) - i) two
+      K_pos : 1 ≤ β ^ (unsigned_abs (h.exponent -ℤ l.exponent) - i)
+      K_pos = power_pos β (unsigned_abs (h.exponent -ℤ l.exponent) - i) two
 
       u : Truncation
-      u = aligned_at β h l (nat_abs (h.exponent -ℤ l.exponent)) i
+      u = aligned_at β h l (unsigned_abs (h.exponent -ℤ l.exponent)) i
 
       j : Joined (lifted β h i) l.negative (l.size / K) (l.size % K) u
       j = joined (lifted β h i) l.negative (l.size / K) (l.size % K)
@@ -158,24 +154,24 @@ module _ (β p : ℕ) (kind : IsKind β p) (h l : Term) (le : l.exponent ≤ℤ 
           let e : d - i + i ≡ d = omega arith in
           ap (λ (a : ℕ). h.size * a) (power_parts β (d - i) i d e) ∙ mul_left_comm h.size (β ^ (d - i)) (β ^ i)
 
-      level : (d : ℕ) → i ≤ d → nat_abs (h.exponent -ℤ l.exponent) ≡ d
+      level : (d : ℕ) → i ≤ d → unsigned_abs (h.exponent -ℤ l.exponent) ≡ d
           → h.exponent -ℤ pos i ≡ l.exponent +ℤ pos (d - i)
       level d g e = omega (arith, ints)
 
       -- with something below, h was not brought all the way up, so that it is longer than l by a digit
       long : u.sticky ≡ true → (0 < l.size % K) ⊎ (l.size % K ≤ 0) → β ^ p ≤ u.term.size
-      long e (inr none) = clash (sym (j.exact (omega arith)) ∙ e)
+      long e (inr none) = cc (j.exact (omega arith))
       long e (inl some) = still_long β p h.size d i l.size u.term.size kind up short some j.near
 
   aligned_stands : h.size < β ^ (2 * p) → l.size < β ^ (2 * p)
       → Stands β p (plus β (worth h) (worth l)) (aligned_sum β p h l)
   aligned_stands high low =
       subst (λ (x : Exact). Stands β p x (aligned_sum β p h l)) (lowered_plus β h l le)
-      (cond_both (eqb h.size 0) _ _ (Stands β p (lowered β h l)) (λ none. zero_stands (grind (arith, nat_tests)))
+      (cond_both (h.size == 0) _ _ (Stands β p (lowered β h l)) (λ none. zero_stands (grind (arith, nat_tests)))
       (λ some. risen_stands i (rise_of β p h.size d i kind (grind (arith, nat_tests)) high refl) low))
     where
       d : ℕ
-      d = nat_abs (h.exponent -ℤ l.exponent)
+      d = unsigned_abs (h.exponent -ℤ l.exponent)
 
       i : ℕ
       i = rise β p h.size d

@@ -1,6 +1,6 @@
 -- What joining two sizes by their signs says of the exact sum, in any units fine enough for what lies below.
-use Rattle.std.proofs.Common.{◌≡◌, ℕ, ◌+◌, ◌-◌, ◌*◌, ◌<◌, ◌≤◌, Bool, true, false, not, eqb, ltb, ◌+ℤ◌, sym}
-use Rattle.std.proofs.Common.{refl, ap, subst, arith}
+use Rattle.std.proofs.Common.{◌≡◌, ℕ, ◌+◌, ◌-◌, ◌*◌, ◌<◌, ◌≤◌, Bool, true, false, not, ◌==◌, nat_lt, ◌+ℤ◌, sym, refl}
+use Rattle.std.proofs.Common.{ap, subst, arith}
 use mathlib.Core.Bool.{beq}
 use borrow.Author.Differences.{ints}
 use Rattle.std.proofs.lemmas.Bool.{cond_both}
@@ -10,7 +10,6 @@ use Rattle.integers.specs.declared.terms.Term.{Term}
 use Rattle.integers.specs.Terms.{Truncation, truncated}
 use Rattle.integers.specs.Rounding.{one_if}
 use Rattle.integers.specs.Sums.{joined_sum}
-use Rattle.integers.proofs.Truncations.{clash}
 
 -- in units of which K make one: K t and K above + below with their signs make K times u's size, and `low` more
 pub record Whole (K : ℕ) (t : Term) (other : Bool) (above below : ℕ) (u : Truncation) : Type 0 where
@@ -32,20 +31,20 @@ add_same false M N L h = omega (arith, ints)
 add_same true M N L h = omega (arith, ints)
 
 add_less : (a b : Bool) → beq a b ≡ false → (M N L : ℕ) → M ≡ N + L → signed a M +ℤ signed b N ≡ signed a L
-add_less false false e M N L h = clash (sym e)
-add_less true true e M N L h = clash (sym e)
+add_less false false e M N L h = cc
+add_less true true e M N L h = cc
 add_less true false e M N L h = omega (arith, ints)
 add_less false true e M N L h = omega (arith, ints)
 
 add_more : (a b : Bool) → beq a b ≡ false → (M N L : ℕ) → N ≡ M + L → signed a M +ℤ signed b N ≡ signed b L
-add_more false false e M N L h = clash (sym e)
-add_more true true e M N L h = clash (sym e)
+add_more false false e M N L h = cc
+add_more true true e M N L h = cc
 add_more true false e M N L h = omega (arith, ints)
 add_more false true e M N L h = omega (arith, ints)
 
 module _ (t : Term) (other : Bool) (above below : ℕ) where
   same : t.negative ≡ other
-      → Joined t other above below (truncated other (t.size + above) t.exponent (not (eqb below 0)))
+      → Joined t other above below (truncated other (t.size + above) t.exponent (not (below == 0)))
   same e = record {
     sum = λ K h. record {
       low = below;
@@ -62,7 +61,7 @@ module _ (t : Term) (other : Bool) (above below : ℕ) where
   }
 
   past : beq t.negative other ≡ false → t.size ≤ above
-      → Joined t other above below (truncated other (above - t.size) t.exponent (not (eqb below 0)))
+      → Joined t other above below (truncated other (above - t.size) t.exponent (not (below == 0)))
   past e le = record {
     sum = λ K h. record {
       low = below;
@@ -89,7 +88,7 @@ module _ (t : Term) (other : Bool) (above below : ℕ) where
           (step K (t.size - above - 0) (omega arith));
       less = omega arith;
       none = λ _. refl;
-      some = λ f. clash f;
+      some = λ f. cc;
     };
     exact = λ _. refl;
     near = omega arith;
@@ -109,7 +108,7 @@ module _ (t : Term) (other : Bool) (above below : ℕ) where
           (K * (t.size - above - 1) + (K - below))
           (step K (t.size - above - 1) (K - below) (omega arith) (omega arith));
       less = omega arith;
-      none = λ f. clash (sym f);
+      none = λ f. cc;
       some = λ _. omega arith;
     };
     exact = λ f. absurd (omega arith);
@@ -123,17 +122,17 @@ module _ (t : Term) (other : Bool) (above below : ℕ) where
   pub joined : Joined t other above below (joined_sum t other above below)
   joined =
       cond_both (beq t.negative other) _ _ (Joined t other above below) (λ e. same (alike t.negative other e))
-      (λ e. cond_both (ltb above t.size) _ _ (Joined t other above below)
-      (λ lt. less e (grind (arith, nat_tests)) (not (eqb below 0)) refl)
+      (λ e. cond_both (nat_lt above t.size) _ _ (Joined t other above below)
+      (λ lt. less e (grind (arith, nat_tests)) (not (below == 0)) refl)
       (λ ge. past e (grind (arith, nat_tests))))
     where
       alike : (a b : Bool) → beq a b ≡ true → a ≡ b
       alike false false e = refl
       alike true true e = refl
-      alike true false e = clash e
-      alike false true e = clash e
+      alike true false e = cc
+      alike false true e = cc
 
-      less : beq t.negative other ≡ false → above < t.size → (sticky : Bool) → not (eqb below 0) ≡ sticky
+      less : beq t.negative other ≡ false → above < t.size → (sticky : Bool) → not (below == 0) ≡ sticky
           → Joined t other above below (truncated t.negative (t.size - above - one_if sticky) t.exponent sticky)
       less e lt true f = borrowed e lt (grind (arith, nat_tests))
       less e lt false f = even e lt (grind (arith, nat_tests))

@@ -1,8 +1,9 @@
 -- What the rounding routine computes of a truncated number is the rounded figure of what it stands for.
-use Rattle.std.proofs.Common.{◌≡◌, ℕ, zero, suc, ◌+◌, ◌-◌, ◌*◌, ◌/◌, ◌%◌, ◌^◌, ◌<◌, ◌≤◌, Bool, true, false, cond, eqb}
-use Rattle.std.proofs.Common.{leb, ℤ, pos, ◌+ℤ◌, ◌-ℤ◌, nat_abs, ◌≤ℤ◌, sym, refl, ap, ◌∙◌, subst, ap₂}
-use Rattle.std.proofs.Common.{mul-le-mul, mul-le-mul_left, mul-one, arith}
-use native.Mathlib.Nat.{pow-zero}
+use Rattle.std.proofs.Common.{◌≡◌, ℕ, zero, suc, ◌+◌, ◌-◌, ◌*◌, ◌/◌, ◌%◌, ◌^◌, ◌<◌, ◌≤◌, Bool, true, false}
+use Rattle.std.proofs.Common.{if◌then◌else◌, ◌==◌, nat_le, ℤ, pos, ◌+ℤ◌, ◌-ℤ◌, unsigned_abs, ◌≤ℤ◌, sym, refl, ap, ◌∙◌}
+use Rattle.std.proofs.Common.{subst, ap₂, mul-le-mul, mul-le-mul_left, mul-one, arith}
+use native.Mathlib.Nat.{pow-zero, add-zero}
+use lib.Signed.{≤ℤ_refl}
 use borrow.Author.Differences.{ints}
 use Rattle.std.proofs.lemmas.Bool.{cond_both}
 use Rattle.std.proofs.lemmas.Bool.Decides.{nat_tests}
@@ -44,8 +45,8 @@ module _ (β p : ℕ) (kind : IsKind β p) (x : Exact) (t : Truncation) (s : Sta
   K_pos : 1 ≤ β ^ s.rest
   K_pos = power_pos β s.rest two
 
-  size_is : nat_abs x.m ≡ β ^ s.rest * n + s.low
-  size_is = ap nat_abs s.is ∙ signed_size t.term.negative _
+  size_is : unsigned_abs x.m ≡ β ^ s.rest * n + s.low
+  size_is = ap unsigned_abs s.is ∙ signed_size t.term.negative _
 
   -- a number of p digits at most has nothing below
   nothing_below : n < β ^ p → s.low ≡ 0
@@ -55,7 +56,7 @@ module _ (β p : ℕ) (kind : IsKind β p) (x : Exact) (t : Truncation) (s : Sta
       go false e = s.none e
       go true e = absurd (omega (arith, s.large e))
 
-  sign_is : 0 < nat_abs x.m → negative x.m ≡ t.term.negative
+  sign_is : 0 < unsigned_abs x.m → negative x.m ≡ t.term.negative
   sign_is some = ap negative s.is ∙ negative_signed t.term.negative _ (omega (arith, size_is))
 
   -- zero is rounded to zero
@@ -75,10 +76,11 @@ module _ (β p : ℕ) (kind : IsKind β p) (x : Exact) (t : Truncation) (s : Sta
       let top : N < β ^ p = appended_high β n d i p two l (omega arith) in
       let bottom : β ^ (p - 1) ≤ N = appended_low β n d i (p - 1) l (omega (arith, l.some)) in
       let low : s.low ≡ 0 = nothing_below (under (β ^ i) (β ^ p) (power_pos β i two) top) in
-      let whole : nat_abs x.m ≡ K * n = size_is ∙ plain K n s.low low in
-      let some : 0 < nat_abs x.m = big K (nat_abs x.m) whole K_pos in
+      let whole : unsigned_abs x.m ≡ K * n = size_is ∙ plain K n s.low low in
+      let some : 0 < unsigned_abs x.m = big K (unsigned_abs x.m) whole K_pos in
       let v : ℤ = x.e -ℤ pos i in
-      let place : Placed (β ^ (p - 1)) (β ^ p) (β ^ s.rest) (nat_abs x.m * β ^ nat_abs (x.e -ℤ v)) N 0 0 = record {
+      let place : Placed (β ^ (p - 1)) (β ^ p) (β ^ s.rest) (unsigned_abs x.m * β ^ unsigned_abs (x.e -ℤ v)) N 0 0 =
+      record {
         is = ap₂ (λ (a b : ℕ). a * β ^ b) whole (back x.e i) ∙ turn K n (β ^ i);
         w_lt = K_pos;
         d_lo = bottom;
@@ -86,7 +88,7 @@ module _ (β p : ℕ) (kind : IsKind β p) (x : Exact) (t : Truncation) (s : Sta
         raised = sym (raise_less K N (2 * 0) (omega (arith, K_pos)));
       } in
       sym (rounded_of β p two one_p x v s.rest N 0 0 some (below x.e i) (near x.e d l.some le) place
-      ∙ ap₂ (λ (b : Bool) (m : ℕ). carried β p b m (v +ℤ pos s.rest)) (sign_is some) (idr N)
+      ∙ ap₂ (λ (b : Bool) (m : ℕ). carried β p b m (v +ℤ pos s.rest)) (sign_is some) (add-zero N)
       ∙ ap (λ (q : ℤ). carried β p t.term.negative N q) (level x.e i s.rest t.term.exponent s.place))
     where
       under : (E P : ℕ) → 1 ≤ E → n * E < P → n < P
@@ -98,7 +100,7 @@ module _ (β p : ℕ) (kind : IsKind β p) (x : Exact) (t : Truncation) (s : Sta
       big : (K m : ℕ) → m ≡ K * n → 1 ≤ K → 0 < m
       big K m e h = omega (arith, mul-le-mul h z)
 
-      back : (e : ℤ) (i : ℕ) → nat_abs (e -ℤ (e -ℤ pos i)) ≡ i
+      back : (e : ℤ) (i : ℕ) → unsigned_abs (e -ℤ (e -ℤ pos i)) ≡ i
       back e i = omega (arith, ints)
 
       below : (e : ℤ) (i : ℕ) → (e -ℤ pos i) ≤ℤ e
@@ -109,9 +111,6 @@ module _ (β p : ℕ) (kind : IsKind β p) (x : Exact) (t : Truncation) (s : Sta
 
       turn : (K n E : ℕ) → K * n * E ≡ n * E * K + 0
       turn K n E = omega arith
-
-      idr : (a : ℕ) → a + 0 ≡ a
-      idr a = omega arith
 
       level : (e : ℤ) (i r : ℕ) (m : ℤ) → m ≡ e +ℤ pos r → e -ℤ pos i +ℤ pos r ≡ m -ℤ pos i
       level e i r m h = omega (arith, ints)
@@ -139,43 +138,38 @@ module _ (β p : ℕ) (kind : IsKind β p) (x : Exact) (t : Truncation) (s : Sta
             w_lt = h.rem;
             d_lo = h.lo;
             d_hi = h.hi;
-            raised = ap (raise (β ^ k) q) (idr (2 * a));
+            raised = ap (raise (β ^ k) q) (add-zero (2 * a));
           }) in
           subst (λ (l : ℕ). Placed (β ^ (p - 1)) (β ^ p) (K * β ^ k) (K * n + l) q (K * a + l)
           (raise (β ^ k) q (2 * a + 0))) (sym (s.none e))
           (subst (λ (m : ℕ). Placed (β ^ (p - 1)) (β ^ p) (K * β ^ k) m q (K * a + 0) (raise (β ^ k) q (2 * a + 0)))
-          (sym (idr (K * n)))
+          (sym (add-zero (K * n)))
           (subst (λ (w : ℕ). Placed (β ^ (p - 1)) (β ^ p) (K * β ^ k) (K * n) q w (raise (β ^ k) q (2 * a + 0)))
-          (sym (idr (K * a))) plain))
-        where
-          idr : (a : ℕ) → a + 0 ≡ a
-          idr a = omega arith
+          (sym (add-zero (K * a))) plain))
 
   -- a longer number is rounded at its p-th digit
   shortened_rounds : (d : ℕ) → Length β n d → p < d → shortened_figure β p t (d - p) ≡ rounded β p x
   shortened_rounds d l past =
       let k : ℕ = d - p in
       let h = shortened β p n d kind l past in
-      let some : 0 < nat_abs x.m = big K (β ^ k) (nat_abs x.m) size_is h.unit_le (power_pos β k two) K_pos in
+      let some : 0 < unsigned_abs x.m = big K (β ^ k) (unsigned_abs x.m) size_is h.unit_le (power_pos β k two) K_pos in
       let q : ℕ = n / β ^ k in
       let b : ℕ = raise (β ^ k) q (2 * (n % β ^ k) + one_if t.sticky) in
       let w : ℕ = K * (n % β ^ k) + s.low in
       let unit : β ^ (s.rest + k) ≡ K * β ^ k = power_parts β s.rest k (s.rest + k) refl in
-      let there : K * n + s.low ≡ nat_abs x.m * β ^ nat_abs (x.e -ℤ x.e) =
-      sym size_is ∙ sym (ap (λ (m : ℕ). nat_abs x.m * β ^ m) (size_same x.e)
-      ∙ ap (λ (m : ℕ). nat_abs x.m * m) (pow-zero β) ∙ mul-one (nat_abs x.m)) in
-      let place = subst (λ (V : ℕ). Placed (β ^ (p - 1)) (β ^ p) V (nat_abs x.m * β ^ nat_abs (x.e -ℤ x.e)) q w b)
+      let there : K * n + s.low ≡ unsigned_abs x.m * β ^ unsigned_abs (x.e -ℤ x.e) =
+      sym size_is ∙ sym (ap (λ (m : ℕ). unsigned_abs x.m * β ^ m) (size_same x.e)
+      ∙ ap (λ (m : ℕ). unsigned_abs x.m * m) (pow-zero β) ∙ mul-one (unsigned_abs x.m)) in
+      let place =
+      subst (λ (V : ℕ). Placed (β ^ (p - 1)) (β ^ p) V (unsigned_abs x.m * β ^ unsigned_abs (x.e -ℤ x.e)) q w b)
       (sym unit) (subst (λ (m : ℕ). Placed (β ^ (p - 1)) (β ^ p) (K * β ^ k) m q w b) there (kept_place k h)) in
-      sym (rounded_of β p two one_p x x.e (s.rest + k) q w b some (stays x.e) (near x.e) place
+      sym (rounded_of β p two one_p x x.e (s.rest + k) q w b some (≤ℤ_refl x.e) (near x.e) place
       ∙ ap (λ (g : Bool). carried β p g (q + b) (x.e +ℤ pos (s.rest + k))) (sign_is some)
       ∙ ap (λ (e : ℤ). carried β p t.term.negative (q + b) e)
       (level x.e k s.rest t.term.exponent s.place))
     where
       big : (K U m : ℕ) → m ≡ K * n + s.low → U ≤ n → 1 ≤ U → 1 ≤ K → 0 < m
       big K U m e u z h = let some : 1 ≤ n = omega arith in omega (arith, mul-le-mul h some)
-
-      stays : (e : ℤ) → e ≤ℤ e
-      stays e = omega (arith, ints)
 
       near : (e : ℤ) → (e -ℤ pos (p - 1)) ≤ℤ e
       near e = omega (arith, ints)
@@ -185,17 +179,17 @@ module _ (β p : ℕ) (kind : IsKind β p) (x : Exact) (t : Truncation) (s : Sta
 
   pub nearest_rounds : nearest_figure β p t ≡ rounded β p x
   nearest_rounds =
-      cond_both (eqb n 0) _ _ (λ (f : Figure). f ≡ rounded β p x) (λ none. zero_rounds (grind (arith, nat_tests)))
+      cond_both (n == 0) _ _ (λ (f : Figure). f ≡ rounded β p x) (λ none. zero_rounds (grind (arith, nat_tests)))
       (λ some. long (grind (arith, nat_tests)))
     where
       d : ℕ
       d = digits β n
 
       long : 0 < n
-          → cond (leb d p) (extended_figure β p t.term (p - d)) (shortened_figure β p t (d - p)) ≡ rounded β p x
+          → (if nat_le d p then extended_figure β p t.term (p - d) else shortened_figure β p t (d - p)) ≡ rounded β p x
       long some =
           let length : Length β n d = length_of β n d two some refl in
-          cond_both (leb d p) _ _ (λ (f : Figure). f ≡ rounded β p x)
+          cond_both (nat_le d p) _ _ (λ (f : Figure). f ≡ rounded β p x)
           (λ short. extended_rounds d length (grind (arith, nat_tests)) some)
           (λ past. shortened_rounds d length (grind (arith, nat_tests)))
 

@@ -1,8 +1,7 @@
 -- What a truncated number says of the exact number that it stands for.
-use Rattle.std.proofs.Common.{◌≡◌, ℕ, ◌+◌, ◌*◌, ◌^◌, ◌<◌, ◌≤◌, true, false, T, ℤ, pos, ◌+ℤ◌, sym, refl, ap, subst}
-use Rattle.std.proofs.Common.{arith}
+use Rattle.std.proofs.Common.{◌≡◌, ℕ, ◌+◌, ◌*◌, ◌^◌, ◌<◌, ◌≤◌, true, false, pos, ◌+ℤ◌, sym, refl, ap, arith}
 use native.Mathlib.Nat.{pow-zero}
-use borrow.Author.Differences.{ints}
+use lib.IntN.{+ℤ_idr}
 use Rattle.whole.proofs.Powers.{power_pos}
 use Rattle.rounding.specs.Exact.{Exact}
 use Rattle.rounding.specs.Rounding.{signed}
@@ -20,9 +19,6 @@ pub record Stands (β p : ℕ) (x : Exact) (t : Truncation) : Type 0 where
   pub some : t.sticky ≡ true → 0 < low
   pub large : t.sticky ≡ true → β ^ p ≤ t.term.size
 
-pub clash : {A : Type 0} → false ≡ true → A
-clash e = absurd (subst T (sym e) tt)
-
 -- a term that nothing lies below stands for its own worth
 pub plain_stands : (β p : ℕ) (t : Term) → 2 ≤ β → Stands β p (worth t) (exact t)
 plain_stands β p t two = record {
@@ -30,14 +26,11 @@ plain_stands β p t two = record {
   low = 0;
   is = ap (signed t.negative) (whole (β ^ 0) t.size (pow-zero β));
   less = power_pos β 0 two;
-  place = stays t.exponent;
+  place = sym (+ℤ_idr t.exponent);
   none = λ _. refl;
-  some = λ e. clash e;
-  large = λ e. clash e;
+  some = λ e. cc;
+  large = λ e. cc;
 }
   where
     whole : (E n : ℕ) → E ≡ 1 → n ≡ E * n + 0
     whole E n e = omega (arith, ap (λ (m : ℕ). m * n) e)
-
-    stays : (e : ℤ) → e ≡ e +ℤ pos 0
-    stays e = omega (arith, ints)

@@ -51,7 +51,7 @@ impl From<Figure> for Term {
 
 impl Term {
     // x × y, exactly.
-    #[tactic(auto, using(crate::proofs::Signs::signed_product, whole::proofs::Comparisons::product_below))]
+    #[tactic(auto, using(crate::proofs::Signs::products_of_terms))]
     pub(crate) fn product(format: Format, x: Figure, y: Figure) -> Term
         requires x { IsOperand format.top x }
         requires y { IsOperand format.top y }

@@ -1,7 +1,8 @@
 -- What the radix and the precision of a kind say of its powers: how large they are, and that words have room for them.
-use Rattle.std.proofs.Common.{◌≡◌, ℕ, zero, suc, ◌+◌, ◌-◌, ◌*◌, ◌^◌, ◌<◌, ◌≤◌, sym, ap, ◌∙◌, inl, inr}
-use Rattle.std.proofs.Common.{mul-le-mul_right, mul-le-mul, pow-suc, mul-zero, sub-add_cancel, add-one, arith}
-use Rattle.std.proofs.lemmas.Bool.{cases_lt}
+use Rattle.std.proofs.Common.{◌≡◌, ℕ, zero, suc, ◌+◌, ◌-◌, ◌*◌, ◌^◌, ◌<◌, ◌≤◌, sym, ap, ◌∙◌, mul-le-mul_right}
+use Rattle.std.proofs.Common.{mul-le-mul, pow-suc, mul-zero, sub-add_cancel, add-one, arith}
+use native.Mathlib.Nat.{two-mul}
+use Rattle.whole.proofs.Comparisons.{root}
 use Rattle.whole.proofs.Powers.{power_pos, power_le, power_below, power_one, power_split, power_parts}
 use Rattle.kinds.specs.Kinds.{IsKind}
 
@@ -35,22 +36,13 @@ least_small β p kind = omega (arith, least_below β p kind, kind.3)
 -- the radix is at most 2^12, since its square is at most 2^24
 pub small_radix : (β p : ℕ) → IsKind β p → β ≤ 4096
 small_radix β p kind =
-    root β (omega (arith, power_le β 2 p (radix_two β p kind) kind.1, square β, kind.3))
+    root β 4096 (omega (arith, power_le β 2 p (radix_two β p kind) kind.1, square β, kind.3))
   where
     square : (b : ℕ) → b ^ 2 ≡ b * b
     square b = power_parts b 1 1 2 (omega arith) ∙ ap (λ (n : ℕ). n * n) (power_one b)
 
-    root : (b : ℕ) → b * b ≤ 16777216 → b ≤ 4096
-    root b h = elim (cases_lt 4096 b) [
-      | inl l ↦ absurd (let m : 4097 * 4097 ≤ b * b = mul-le-mul l l in omega arith)
-      | inr l ↦ l
-    ]
-
 pub double_power : (β p : ℕ) → β ^ (2 * p) ≡ β ^ p * β ^ p
-double_power β p = power_parts β p p (2 * p) (twice p)
-  where
-    twice : (n : ℕ) → n + n ≡ 2 * n
-    twice n = omega arith
+double_power β p = power_parts β p p (2 * p) (sym (two-mul p))
 
 -- a product of two significands fits 48 bits
 pub products_small : (β p : ℕ) → IsKind β p

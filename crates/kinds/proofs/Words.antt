@@ -1,16 +1,11 @@
 -- How powers that outgrow a word divide what a word holds, and what the loop that counts digits keeps.
-use Rattle.std.proofs.Common.{◌≡◌, ℕ, ◌+◌, ◌-◌, ◌*◌, ◌/◌, ◌%◌, ◌^◌, ◌<◌, ◌≤◌, ◌⊎◌, sym, ap, ◌∙◌, subst, inl}
-use Rattle.std.proofs.Common.{inr, mod-eq_of_lt, mul_comm, div-lt_iff_lt-mul, mul-le-mul_left, pow-suc, div-add-mod'}
-use Rattle.std.proofs.Common.{le-div_iff_mul-le, add-one, arith}
-use native.Mathlib.Nat.{pow-zero, div-eq_of_lt, mul-mod_left, add-mul-mod_self_right}
+use Rattle.std.proofs.Common.{◌≡◌, ℕ, ◌+◌, ◌-◌, ◌*◌, ◌/◌, ◌%◌, ◌^◌, ◌<◌, ◌≤◌, ◌⊎◌, sym, ap, ◌∙◌, subst, inl, inr}
+use Rattle.std.proofs.Common.{mul_comm, div-lt_iff_lt-mul, mul-le-mul_left, pow-suc, le-div_iff_mul-le, add-one, arith}
+use native.Mathlib.Nat.{pow-zero, mul-mod_left, mul_assoc, add-sub_cancel}
 use Rattle.std.proofs.lemmas.Bool.{cases_lt}
 use Rattle.rounding.specs.Digits.{digits}
 use Rattle.rounding.proofs.Digits.{digits_zero, digits_is}
 use Rattle.whole.proofs.Powers.{power_pos, power_below, power_split, power_parts}
-
--- a number below the unit has no digits above it
-pub split_below : (n u : ℕ) → n < u → (0 ≡ n / u) × (n ≡ n % u)
-split_below n u h = (sym (div-eq_of_lt h), sym (mod-eq_of_lt h))
 
 -- what fits a word is whole in it
 pub in_word : (u r : ℕ) → r ≡ (1 * u) % 2 ^ 64 → u ≤ 16777216 → r ≡ u
@@ -20,20 +15,8 @@ in_word u r e h = omega arith
 pub past_word : (n k : ℕ) → 64 ≤ k → 0 ≡ (n * 2 ^ k) % 2 ^ 64
 past_word n k h =
     sym (ap (λ (m : ℕ). m % 2 ^ 64)
-    (ap (λ (m : ℕ). n * m) (power_parts 2 (k - 64) 64 k (omega arith)) ∙ turn n (2 ^ (k - 64)))
+    (ap (λ (m : ℕ). n * m) (power_parts 2 (k - 64) 64 k (omega arith)) ∙ sym (mul_assoc n (2 ^ (k - 64)) (2 ^ 64)))
     ∙ mul-mod_left (n * 2 ^ (k - 64)) (2 ^ 64))
-  where
-    turn : (n U : ℕ) → n * (U * 2 ^ 64) ≡ n * U * 2 ^ 64
-    turn n U = omega arith
-
--- a factor may be cut to a word before the product is
-pub wrapped_product : (n u w : ℕ) → w ≡ u % 2 ^ 64 → (n * w) % 2 ^ 64 ≡ (n * u) % 2 ^ 64
-wrapped_product n u w e =
-    sym (ap (λ (m : ℕ). m % 2 ^ 64) (parts (u / 2 ^ 64) (u % 2 ^ 64) e (div-add-mod' u (2 ^ 64)))
-    ∙ add-mul-mod_self_right (n * w) (n * (u / 2 ^ 64)) (2 ^ 64))
-  where
-    parts : (q r : ℕ) → w ≡ r → q * 2 ^ 64 + r ≡ u → n * u ≡ n * w + n * q * 2 ^ 64
-    parts q r e h = omega (arith, ap (λ (m : ℕ). n * m) (sym h), ap (λ (m : ℕ). n * m) e)
 
 -- what the loop that counts the digits of n keeps: the power of the digits counted so far has not passed n
 pub record Counting (β n power count : ℕ) : Type 0 where
@@ -41,10 +24,6 @@ pub record Counting (β n power count : ℕ) : Type 0 where
   pub few : count ≤ 64
   pub is : power ≡ β ^ (count - 1)
   pub low : (count ≡ 1) ⊎ (power ≤ n)
-
--- the next power does not pass n
-pub counting_room : (β n power : ℕ) → 2 ≤ β → power ≤ n / β → power * β ≤ n
-counting_room β n power two h = (le-div_iff_mul-le (omega arith)).0 h
 
 pub counting_grows : (β n power count : ℕ) → 2 ≤ β → Counting β n power count → power < power * β
 counting_grows β n power count two c =
@@ -56,15 +35,12 @@ pub counting_more : (β n power count : ℕ) → 2 ≤ β → n < 2 ^ 64 → pow
 counting_more β n power count two word h c = record {
   some = omega arith;
   few = omega (arith, power_below β count 64 two (omega (arith, next, past)));
-  is = next ∙ ap (λ (m : ℕ). β ^ m) (back count);
+  is = next ∙ ap (λ (m : ℕ). β ^ m) (sym (add-sub_cancel count 1));
   low = inr past;
 }
   where
-    back : (k : ℕ) → k ≡ k + 1 - 1
-    back k = omega arith
-
     past : power * β ≤ n
-    past = counting_room β n power two h
+    past = (le-div_iff_mul-le (omega arith)).0 h
 
     next : power * β ≡ β ^ count
     next = ap (λ (m : ℕ). m * β) c.is ∙ mul_comm (β ^ (count - 1)) β ∙ sym (power_split β count c.some)
@@ -97,8 +73,5 @@ counting_end β n power count two h c = go c.low (cases_lt 0 n)
 -- at radix 2 the logarithm tells the digits
 pub binary_digits : (n k : ℕ) → 2 ^ k ≤ n → n < 2 * 2 ^ k → k + 1 ≡ digits 2 n
 binary_digits n k low high =
-    sym (digits_is 2 n (k + 1) (omega arith) (omega arith) (subst (λ (m : ℕ). 2 ^ m ≤ n) (back k) low)
+    sym (digits_is 2 n (k + 1) (omega arith) (omega arith) (subst (λ (m : ℕ). 2 ^ m ≤ n) (sym (add-sub_cancel k 1)) low)
     (omega (arith, high, pow-suc 2 k, ap (λ (m : ℕ). 2 ^ m) (add-one k))))
-  where
-    back : (k : ℕ) → k ≡ k + 1 - 1
-    back k = omega arith

@@ -1,5 +1,5 @@
 -- Gaussian whole numbers a + bi: lengths of products and sums, and one turn of a phasor.
-use Rattle.std.proofs.Common.{◌≡◌, ℕ, ◌+◌, ◌-◌, ◌*◌, ◌≤◌, [], ◌∷◌, ℤ, pos, negsuc, ◌+ℤ◌, ◌-ℤ◌, ◌*ℤ◌, nat_abs, sym}
+use Rattle.std.proofs.Common.{◌≡◌, ℕ, ◌+◌, ◌-◌, ◌*◌, ◌≤◌, [], ◌∷◌, ℤ, pos, negsuc, ◌+ℤ◌, ◌-ℤ◌, ◌*ℤ◌, unsigned_abs, sym}
 use Rattle.std.proofs.Common.{refl, ap, ◌∙◌, subst, ap₂, arith}
 use Rattle.whole.proofs.Linear.{lin}
 use Rattle.whole.proofs.Identities.{identity, reads}
@@ -7,16 +7,16 @@ use Rattle.phasors.proofs.Lengths.{AtMost, parts_within, turn_within}
 
 -- |a + bi|²
 abbrev pub norm : ℤ → ℤ → ℕ
-norm a b = nat_abs a * nat_abs a + nat_abs b * nat_abs b
+norm a b = unsigned_abs a * unsigned_abs a + unsigned_abs b * unsigned_abs b
 
 -- the size of the inner product of a + bi and c + di
 abbrev inner : ℤ → ℤ → ℤ → ℤ → ℕ
-inner a b c d = nat_abs (a *ℤ c +ℤ b *ℤ d)
+inner a b c d = unsigned_abs (a *ℤ c +ℤ b *ℤ d)
 
 pos_norm : (a b : ℤ) → pos (norm a b) ≡ a *ℤ a +ℤ b *ℤ b
 pos_norm a b = ap₂ (λ (x y : ℤ). x +ℤ y) (square a) (square b)
   where
-    square : (a : ℤ) → pos (nat_abs a * nat_abs a) ≡ a *ℤ a
+    square : (a : ℤ) → pos (unsigned_abs a * unsigned_abs a) ≡ a *ℤ a
     square (pos n) = refl
     square (negsuc n) = refl
 
@@ -24,7 +24,7 @@ pos_norm a b = ap₂ (λ (x y : ℤ). x +ℤ y) (square a) (square b)
 by_identity : (x y a b c d : ℤ) → x *ℤ x +ℤ y *ℤ y ≡ (a *ℤ a +ℤ b *ℤ b) *ℤ (c *ℤ c +ℤ d *ℤ d)
     → norm x y ≡ norm a b * norm c d
 by_identity x y a b c d e =
-    ap nat_abs (pos_norm x y ∙ e ∙ sym (ap₂ (λ (u v : ℤ). u *ℤ v) (pos_norm a b) (pos_norm c d)))
+    ap unsigned_abs (pos_norm x y ∙ e ∙ sym (ap₂ (λ (u v : ℤ). u *ℤ v) (pos_norm a b) (pos_norm c d)))
 
 -- the length of a product is the product of the lengths
 norm_product : (a b c d : ℤ) → norm (a *ℤ c -ℤ b *ℤ d) (a *ℤ d +ℤ b *ℤ c) ≡ norm a b * norm c d
@@ -33,7 +33,7 @@ norm_product a b c d = by_identity (a *ℤ c -ℤ b *ℤ d) (a *ℤ d +ℤ b *�
 
 -- Cauchy and Schwarz
 inner_most : (a b c d : ℤ) → inner a b c d * inner a b c d ≤ norm a b * norm c d
-inner_most a b c d = part (nat_abs (a *ℤ d -ℤ b *ℤ c)) (inner a b c d) (norm a b * norm c d)
+inner_most a b c d = part (unsigned_abs (a *ℤ d -ℤ b *ℤ c)) (inner a b c d) (norm a b * norm c d)
     (by_identity (a *ℤ d -ℤ b *ℤ c) (a *ℤ c +ℤ b *ℤ d) a b c d
     (identity (a ∷ b ∷ c ∷ d ∷ []) (search reads depth 12) (search reads depth 12) tt))
   where
@@ -47,7 +47,7 @@ norm_sum a b c d =
     ∙ identity (a ∷ b ∷ c ∷ d ∷ []) (search reads depth 12) (search reads depth 12) tt
     ∙ sym (ap₂ (λ (u v : ℤ). u +ℤ ((a *ℤ c +ℤ b *ℤ d) +ℤ (a *ℤ c +ℤ b *ℤ d)) +ℤ v) (pos_norm a b) (pos_norm c d)))
   where
-    sized : (n u v : ℕ) (i : ℤ) → pos n ≡ pos u +ℤ (i +ℤ i) +ℤ pos v → n ≤ u + 2 * nat_abs i + v
+    sized : (n u v : ℕ) (i : ℤ) → pos n ≡ pos u +ℤ (i +ℤ i) +ℤ pos v → n ≤ u + 2 * unsigned_abs i + v
     sized n u v i h = omega (arith, lin)
 
 -- One turn of the phasor z = zr + zi i, which stands for the exact x = xr + xi i, by the factor c = cr + ci i, answered
@@ -89,7 +89,8 @@ module _ (zr zi xr xi cr ci mr mi : ℤ) where
   -- where the answer's parts are within N/D of those of z c, an error of at most A/S - 1 before the turn is at most
   -- A (D + N) / (S D) - 1 after it
   pub turned : (S A D N : ℕ) → S ≤ A → AtMost S (norm er ei) (A - S) (norm xr xi)
-      → D * nat_abs dr ≤ N * nat_abs (zr *ℤ cr -ℤ zi *ℤ ci) → D * nat_abs di ≤ N * nat_abs (zr *ℤ ci +ℤ zi *ℤ cr)
+      → D * unsigned_abs dr ≤ N * unsigned_abs (zr *ℤ cr -ℤ zi *ℤ ci)
+      → D * unsigned_abs di ≤ N * unsigned_abs (zr *ℤ ci +ℤ zi *ℤ cr)
       → AtMost (S * D) (norm (mr -ℤ (xr *ℤ cr -ℤ xi *ℤ ci)) (mi -ℤ (xr *ℤ ci +ℤ xi *ℤ cr))) (A * (D + N) - S * D)
       (norm (xr *ℤ cr -ℤ xi *ℤ ci) (xr *ℤ ci +ℤ xi *ℤ cr))
   turned S A D N some before real imaginary =
@@ -106,5 +107,6 @@ module _ (zr zi xr xi cr ci mr mi : ℤ) where
     where
       added : AtMost D (norm dr di) N (norm zr zi * norm cr ci)
       added = subst (λ (n : ℕ). AtMost D (norm dr di) N n) (norm_product zr zi cr ci)
-          (parts_within D N (nat_abs dr) (nat_abs di) (nat_abs (zr *ℤ cr -ℤ zi *ℤ ci)) (nat_abs (zr *ℤ ci +ℤ zi *ℤ cr))
+          (parts_within D N (unsigned_abs dr) (unsigned_abs di) (unsigned_abs (zr *ℤ cr -ℤ zi *ℤ ci))
+          (unsigned_abs (zr *ℤ ci +ℤ zi *ℤ cr))
           real imaginary)

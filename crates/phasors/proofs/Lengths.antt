@@ -1,14 +1,12 @@
 -- Bounds on lengths without roots: a length is known by its square, and an inner product by its size.
-use Rattle.std.proofs.Common.{◌≡◌, ℕ, ◌+◌, ◌-◌, ◌*◌, ◌≤◌, sym, ap, subst, inl, inr, mul-le-mul_right, mul-le-mul}
+use Rattle.std.proofs.Common.{◌≡◌, ℕ, ◌+◌, ◌-◌, ◌*◌, ◌≤◌, sym, ap, subst, mul-le-mul_right, mul-le-mul}
 use Rattle.std.proofs.Common.{mul-le-mul_left, arith}
-use Rattle.std.proofs.lemmas.Bool.{cases_lt}
+use native.Mathlib.Nat.{add-sub_of_le}
+use Rattle.whole.proofs.Comparisons.{root}
 
 -- f times the length whose square is u is at most a times the length whose square is v
 abbrev pub AtMost : ℕ → ℕ → ℕ → ℕ → Type 0
 AtMost f u a v = u * (f * f) ≤ a * a * v
-
-root : (m n : ℕ) → m * m ≤ n * n → m ≤ n
-root m n h = elim (cases_lt n m) [ inl l ↦ absurd (omega (arith, mul-le-mul l l)) | inr l ↦ l ]
 
 -- the triangle inequality: i is the size of the inner product of the two numbers, w the square of their sum's length
 pub triangle : (f u v i w a b l : ℕ) → i * i ≤ u * v → w ≤ u + 2 * i + v → AtMost f u a l → AtMost f v b l
@@ -40,11 +38,8 @@ turn_within S A D N c x z e d e' i j some schwarz long schwarz' sum before added
     (triangle (S * D) d (e * c) j e' (N * A) (D * (A - S)) (x * c) schwarz' sum fresh old)
   where
     phasor : AtMost S z A x
-    phasor = subst (λ (n : ℕ). AtMost S z n x) (there S A some)
+    phasor = subst (λ (n : ℕ). AtMost S z n x) (add-sub_of_le some)
         (triangle S x e i z S (A - S) x schwarz long (omega arith) before)
-      where
-        there : (S A : ℕ) → S ≤ A → S + (A - S) ≡ A
-        there S A h = omega arith
 
     fresh : AtMost (S * D) d (N * A) (x * c)
     fresh = omega (arith, mul-le-mul_right (S * S) added, mul-le-mul_left (N * N * c) phasor)

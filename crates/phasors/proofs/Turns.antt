@@ -1,15 +1,15 @@
 -- One turn of a phasor, with exponents: counted in fine units it is a turn on whole numbers.
-use Rattle.std.proofs.Common.{◌≡◌, ℕ, ◌+◌, ◌-◌, ◌*◌, ◌^◌, ◌≤◌, [], ◌∷◌, ℤ, pos, ◌+ℤ◌, ◌-ℤ◌, ◌*ℤ◌, nat_abs, ◌≤ℤ◌, sym}
-use Rattle.std.proofs.Common.{ap, ◌∙◌, subst, ap₂, mul-le-mul, pow-suc, add-one, arith, pow-add}
-use native.Mathlib.Nat.{pow-le-pow_left}
+use Rattle.std.proofs.Common.{◌≡◌, ℕ, ◌+◌, ◌-◌, ◌*◌, ◌^◌, ◌≤◌, [], ◌∷◌, ℤ, pos, ◌+ℤ◌, ◌-ℤ◌, ◌*ℤ◌, unsigned_abs, ◌≤ℤ◌}
+use Rattle.std.proofs.Common.{sym, ap, ◌∙◌, subst, ap₂, mul-le-mul, pow-suc, add-one, arith, pow-add}
+use native.Mathlib.Nat.{pow-le-pow_left, le-add_right, le_of_mul-le-mul_right}
+use Rattle.kinds.proofs.Sizes.{double_power}
 use borrow.Author.Differences.{ints}
 use Rattle.std.specs.Int.{int_min}
-use Rattle.std.proofs.lemmas.Int.{clamps}
+use Rattle.std.proofs.lemmas.Int.{clamps, unsigned_abs-mul}
 use Rattle.whole.proofs.Comparisons.{≤ℤ-trans}
 use Rattle.whole.proofs.Identities.{identity, reads}
-use Rattle.whole.proofs.Integers.{nat_abs_mul, neg_left}
+use Rattle.whole.proofs.Integers.{neg_left}
 use Rattle.whole.proofs.Powers.{power_pos}
-use Rattle.whole.proofs.Quotients.{cancel_le}
 use Rattle.rounding.specs.declared.Figure.{Figure}
 use Rattle.rounding.specs.Exact.{Exact, value, product, units, distance}
 use Rattle.rounding.specs.Errors.{Within}
@@ -28,10 +28,11 @@ units_product : (β : ℕ) (j q : ℤ) (x y : Figure) → j ≤ℤ x.q → q ≤
     → units β (j +ℤ q) (product x y) ≡ units β j (value x) *ℤ units β q (value y)
 units_product β j q x y jx qy =
     ap (λ (n : ℕ). x.s *ℤ y.s *ℤ pos (β ^ n)) (far x.q y.q jx qy)
-    ∙ ap (λ (n : ℕ). x.s *ℤ y.s *ℤ pos n) (pow-add β (nat_abs (x.q -ℤ j)) (nat_abs (y.q -ℤ q)))
-    ∙ pairs x.s y.s (pos (β ^ nat_abs (x.q -ℤ j))) (pos (β ^ nat_abs (y.q -ℤ q)))
+    ∙ ap (λ (n : ℕ). x.s *ℤ y.s *ℤ pos n) (pow-add β (unsigned_abs (x.q -ℤ j)) (unsigned_abs (y.q -ℤ q)))
+    ∙ pairs x.s y.s (pos (β ^ unsigned_abs (x.q -ℤ j))) (pos (β ^ unsigned_abs (y.q -ℤ q)))
   where
-    far : (a b : ℤ) → j ≤ℤ a → q ≤ℤ b → nat_abs ((a +ℤ b) -ℤ (j +ℤ q)) ≡ nat_abs (a -ℤ j) + nat_abs (b -ℤ q)
+    far : (a b : ℤ) → j ≤ℤ a → q ≤ℤ b
+        → unsigned_abs ((a +ℤ b) -ℤ (j +ℤ q)) ≡ unsigned_abs (a -ℤ j) + unsigned_abs (b -ℤ q)
     far a b h g = omega (arith, ints)
 
     pairs : (a b c d : ℤ) → a *ℤ b *ℤ (c *ℤ d) ≡ a *ℤ c *ℤ (b *ℤ d)
@@ -39,17 +40,17 @@ units_product β j q x y jx qy =
 
 -- an exact product, counted
 module _ (β : ℕ) (j : ℤ) (z c : Complex) where
-  same_far : nat_abs ((z.e +ℤ c.e) -ℤ (j +ℤ c.e)) ≡ nat_abs (z.e -ℤ j)
+  same_far : unsigned_abs ((z.e +ℤ c.e) -ℤ (j +ℤ c.e)) ≡ unsigned_abs (z.e -ℤ j)
   same_far = plain z.e c.e
     where
-      plain : (e q : ℤ) → nat_abs ((e +ℤ q) -ℤ (j +ℤ q)) ≡ nat_abs (e -ℤ j)
+      plain : (e q : ℤ) → unsigned_abs ((e +ℤ q) -ℤ (j +ℤ q)) ≡ unsigned_abs (e -ℤ j)
       plain e q = omega (arith, ints)
 
   units_real : units β (j +ℤ c.e) (real_part (times z c))
       ≡ units β j (real_part z) *ℤ c.re -ℤ units β j (imaginary_part z) *ℤ c.im
   units_real =
       ap (λ (n : ℕ). (real_part (times z c)).m *ℤ pos (β ^ n)) same_far
-      ∙ spread z.re z.im c.re c.im (pos (β ^ nat_abs (z.e -ℤ j)))
+      ∙ spread z.re z.im c.re c.im (pos (β ^ unsigned_abs (z.e -ℤ j)))
     where
       spread : (a b c d g : ℤ) → (a *ℤ c -ℤ b *ℤ d) *ℤ g ≡ a *ℤ g *ℤ c -ℤ b *ℤ g *ℤ d
       spread a b c d g = identity (a ∷ b ∷ c ∷ d ∷ g ∷ []) (search reads depth 12) (search reads depth 12) tt
@@ -58,7 +59,7 @@ module _ (β : ℕ) (j : ℤ) (z c : Complex) where
       ≡ units β j (real_part z) *ℤ c.im +ℤ units β j (imaginary_part z) *ℤ c.re
   units_imaginary =
       ap (λ (n : ℕ). (imaginary_part (times z c)).m *ℤ pos (β ^ n)) same_far
-      ∙ spread z.re z.im c.re c.im (pos (β ^ nat_abs (z.e -ℤ j)))
+      ∙ spread z.re z.im c.re c.im (pos (β ^ unsigned_abs (z.e -ℤ j)))
     where
       spread : (a b c d g : ℤ) → (a *ℤ d +ℤ b *ℤ c) *ℤ g ≡ a *ℤ g *ℤ d +ℤ b *ℤ g *ℤ c
       spread a b c d g = identity (a ∷ b ∷ c ∷ d ∷ g ∷ []) (search reads depth 12) (search reads depth 12) tt
@@ -69,23 +70,25 @@ coarser : (β : ℕ) → 2 ≤ β → (j k : ℤ) (w : Phasor) (z : Complex) (S 
     → AtMost S (distance² β j w z) T (length² β j z) → AtMost S (distance² β k w z) T (length² β k z)
 coarser β two j k w z S T jk kr ki kz fine =
     cancel (distance β k (value w.real) (real_part z)) (distance β k (value w.imaginary) (imaginary_part z))
-    (nat_abs (units β k (real_part z))) (nat_abs (units β k (imaginary_part z)))
+    (unsigned_abs (units β k (real_part z))) (unsigned_abs (units β k (imaginary_part z)))
     (distance β j (value w.real) (real_part z)) (distance β j (value w.imaginary) (imaginary_part z))
-    (nat_abs (units β j (real_part z))) (nat_abs (units β j (imaginary_part z)))
-    (β ^ nat_abs (k -ℤ j)) (power_pos β (nat_abs (k -ℤ j)) two)
+    (unsigned_abs (units β j (real_part z))) (unsigned_abs (units β j (imaginary_part z)))
+    (β ^ unsigned_abs (k -ℤ j)) (power_pos β (unsigned_abs (k -ℤ j)) two)
     (distance_finer β j k (value w.real) (real_part z) jk kr kz)
     (distance_finer β j k (value w.imaginary) (imaginary_part z) jk ki kz)
     (size_finer (real_part z) kz) (size_finer (imaginary_part z) kz) fine
   where
-    size_finer : (x : Exact) → k ≤ℤ x.e → nat_abs (units β j x) ≡ nat_abs (units β k x) * β ^ nat_abs (k -ℤ j)
-    size_finer x kx = ap nat_abs (units_finer β j k x jk kx) ∙ nat_abs_mul (units β k x) (pos (β ^ nat_abs (k -ℤ j)))
+    size_finer : (x : Exact) → k ≤ℤ x.e
+        → unsigned_abs (units β j x) ≡ unsigned_abs (units β k x) * β ^ unsigned_abs (k -ℤ j)
+    size_finer x kx =
+        ap unsigned_abs (units_finer β j k x jk kx) ∙ unsigned_abs-mul (units β k x) (pos (β ^ unsigned_abs (k -ℤ j)))
 
     plain : (a b u v g : ℕ) → 1 ≤ g
         → AtMost S (a * g * (a * g) + b * g * (b * g)) T (u * g * (u * g) + v * g * (v * g))
         → AtMost S (a * a + b * b) T (u * u + v * v)
     plain a b u v g some h =
         let square : 1 * 1 ≤ g * g = mul-le-mul some some in
-        cancel_le ((a * a + b * b) * (S * S)) (T * T * (u * u + v * v)) (g * g) (omega arith) (omega arith)
+        le_of_mul-le-mul_right {k = g * g} (omega arith) (omega arith)
 
     cancel : (a b u v a' b' u' v' g : ℕ) → 1 ≤ g → a' ≡ a * g → b' ≡ b * g → u' ≡ u * g → v' ≡ v * g
         → AtMost S (a' * a' + b' * b') T (u' * u' + v' * v') → AtMost S (a * a + b * b) T (u * u + v * v)
@@ -95,15 +98,9 @@ coarser β two j k w z S T jk kr ki kz fine =
         (subst (λ (n : ℕ). AtMost S (a * g * (a * g) + n * n) T (u' * u' + v' * v')) eb
         (subst (λ (n : ℕ). AtMost S (n * n + b' * b') T (u' * u' + v' * v')) ea h))))
 
--- powers of one turn more
+-- the power of one turn more
 power_more : (D n : ℕ) → D ^ (n + 1) ≡ D ^ n * D
 power_more D n = ap (λ (k : ℕ). D ^ k) (add-one n) ∙ pow-suc D n
-
-power_twice : (D n : ℕ) → D ^ (2 * n) ≡ D ^ n * D ^ n
-power_twice D n = ap (λ (k : ℕ). D ^ k) (twice n) ∙ pow-add D n n
-  where
-    twice : (n : ℕ) → 2 * n ≡ n + n
-    twice n = omega arith
 
 -- w stands for z after n turns, and the parts of w' are within N/D of those of w (c + di)
 module _ (β : ℕ) (two : 2 ≤ β) (N D n : ℕ) (w w' : Phasor) (c d : Figure) (z : Complex)
@@ -149,7 +146,7 @@ module _ (β : ℕ) (two : 2 ≤ β) (N D n : ℕ) (w w' : Phasor) (c d : Figure
         (above _ _ jr q_c) (above _ _ ji q_d)
         ∙ ap₂ (λ (u v : ℤ). u +ℤ v) (units_product β j q w.real c jr q_c)
         (units_product β j q (opposite w.imaginary) d ji q_d
-        ∙ ap (λ (u : ℤ). u *ℤ ci) (neg_left w.imaginary.s (pos (β ^ nat_abs (w.imaginary.q -ℤ j))))
+        ∙ ap (λ (u : ℤ). u *ℤ ci) (neg_left w.imaginary.s (pos (β ^ unsigned_abs (w.imaginary.q -ℤ j))))
         ∙ neg_left zi ci)
 
     imaginary_sum : units β (j +ℤ q) (exact_sum β w.real d w.imaginary c) ≡ zr *ℤ ci +ℤ zi *ℤ cr
@@ -169,9 +166,9 @@ module _ (β : ℕ) (two : 2 ≤ β) (N D n : ℕ) (w w' : Phasor) (c d : Figure
         (subst (λ (y : ℤ). AtMost (S * D) (norm (mr -ℤ (xr *ℤ cr -ℤ xi *ℤ ci)) (mi -ℤ y)) (A * (D + N) - S * D)
         (norm (xr *ℤ cr -ℤ xi *ℤ ci) y)) (sym (units_imaginary β j z (factor β c d)))
         (turned zr zi xr xi cr ci mr mi S A D N some before
-        (subst (λ (x : ℤ). D * nat_abs (mr -ℤ x) ≤ N * nat_abs x) real_sum
+        (subst (λ (x : ℤ). D * unsigned_abs (mr -ℤ x) ≤ N * unsigned_abs x) real_sum
         (real (j +ℤ q) kr (lowest _ _ _ (above _ _ jr q_c) (above _ _ ji q_d))))
-        (subst (λ (x : ℤ). D * nat_abs (mi -ℤ x) ≤ N * nat_abs x) imaginary_sum
+        (subst (λ (x : ℤ). D * unsigned_abs (mi -ℤ x) ≤ N * unsigned_abs x) imaginary_sum
         (imaginary (j +ℤ q) ki (lowest _ _ _ (above _ _ jr q_d) (above _ _ ji q_c))))))
       where
         xr : ℤ
@@ -190,13 +187,13 @@ module _ (β : ℕ) (two : 2 ≤ β) (N D n : ℕ) (w w' : Phasor) (c d : Figure
   pub near_more : NearAfter β N D (n + 1) w' (times z (factor β c d))
   near_more k kr ki kz =
       subst (λ (m : ℕ). distance² β k w' z' * m ≤ square ((D + N) ^ (n + 1) - D ^ (n + 1)) * length² β k z')
-      (sym (power_twice D (n + 1) ∙ ap (λ (m : ℕ). m * m) (power_more D n)))
+      (sym (double_power D (n + 1) ∙ ap (λ (m : ℕ). m * m) (power_more D n)))
       (subst (λ (m : ℕ). AtMost (D ^ n * D) (distance² β k w' z') m (length² β k z'))
       (sym (ap₂ (λ (u v : ℕ). u - v) (power_more (D + N) n) (power_more D n)))
       (coarser β two (j +ℤ q) k w' z' (D ^ n * D) ((D + N) ^ n * (D + N) - D ^ n * D) jk kr ki kz
       (fine j jr ji jz (≤ℤ-trans _ _ _ jk kr) (≤ℤ-trans _ _ _ jk ki) (D ^ n) ((D + N) ^ n)
-      (pow-le-pow_left (wider D N) n)
-      (subst (λ (m : ℕ). distance² β j w z * m ≤ square ((D + N) ^ n - D ^ n) * length² β j z) (power_twice D n)
+      (pow-le-pow_left (le-add_right D N) n)
+      (subst (λ (m : ℕ). distance² β j w z * m ≤ square ((D + N) ^ n - D ^ n) * length² β j z) (double_power D n)
       (near j jr ji jz)))))
     where
       z' : Complex
@@ -229,6 +226,3 @@ module _ (β : ℕ) (two : 2 ≤ β) (N D n : ℕ) (w w' : Phasor) (c d : Figure
         where
           over : (j q : ℤ) → j ≤ℤ (k -ℤ q) → (j +ℤ q) ≤ℤ k
           over j q h = omega (arith, ints)
-
-      wider : (D N : ℕ) → D ≤ D + N
-      wider D N = omega arith

@@ -1,8 +1,8 @@
 -- A number n > 0 has the one number of digits d with β^(d-1) ≤ n < β^d.
-use Rattle.std.proofs.Common.{◌≡◌, ℕ, zero, suc, ◌-◌, ◌*◌, ◌/◌, ◌^◌, ◌<◌, ◌≤◌, Bool, true, false, not, T, ltb, ◌⊎◌}
-use Rattle.std.proofs.Common.{sym, refl, ap, subst, inl, inr, le_refl, div-lt_iff_lt-mul, pow-suc, le-div_iff_mul-le}
-use Rattle.std.proofs.Common.{arith, ltb→lt, nltb→le}
+use Rattle.std.proofs.Common.{◌≡◌, ℕ, zero, suc, ◌-◌, ◌*◌, ◌/◌, ◌^◌, ◌<◌, ◌≤◌, Bool, true, false, nat_lt, ◌⊎◌, sym}
+use Rattle.std.proofs.Common.{refl, ap, subst, inl, inr, le_refl, div-lt_iff_lt-mul, pow-suc, le-div_iff_mul-le, arith}
 use native.Mathlib.Nat.{pow-zero, div-lt_self}
+use Rattle.std.proofs.lemmas.Bool.{ltb-true, ltb-false}
 use Rattle.whole.proofs.Powers.{power_pos, power_order, power_one}
 use Rattle.rounding.specs.Digits.{digits_within, digits}
 
@@ -35,13 +35,13 @@ module _ (β : ℕ) (two : 2 ≤ β) where
 
   within_length : (t n : ℕ) → n ≤ t → Length β n (digits_within t β n)
   within_length zero n h = single n (omega arith)
-  within_length (suc t) n h = go (within_length t) (ltb n β) refl
+  within_length (suc t) n h = go (within_length t) (nat_lt n β) refl
     where
-      go : ((n : ℕ) → n ≤ t → Length β n (digits_within t β n)) → (b : Bool) → ltb n β ≡ b
+      go : ((n : ℕ) → n ≤ t → Length β n (digits_within t β n)) → (b : Bool) → nat_lt n β ≡ b
           → Length β n (elim b [ true ↦ 1 | false ↦ suc (digits_within t β (n / β)) ])
-      go rest true e = single n (ltb→lt n β (subst T (sym e) tt))
+      go rest true e = single n (ltb-true n β e)
       go rest false e =
-          let past : β ≤ n = nltb→le n β (subst (λ (b : Bool). T (not b)) (sym e) tt) in
+          let past : β ≤ n = ltb-false n β e in
           let fewer : n / β < n = div-lt_self (omega arith) two in
           longer n (digits_within t β (n / β)) past (rest (n / β) (omega arith))
 

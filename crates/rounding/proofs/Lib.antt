@@ -1,4 +1,3 @@
-pub mod Tests
 pub mod Digits
 pub mod Places
 pub mod Computed

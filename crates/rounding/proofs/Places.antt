@@ -1,10 +1,11 @@
 -- Where a whole number lies on the grid of a unit V, and which multiple of V it is rounded to.
-use Rattle.std.proofs.Common.{◌≡◌, ℕ, suc, ◌+◌, ◌-◌, ◌*◌, ◌%◌, ◌^◌, ◌<◌, ◌≤◌, Bool, cond, ltb, ◌⊎◌, sym, ap, ◌∙◌}
+use Rattle.std.proofs.Common.{◌≡◌, ℕ, suc, ◌+◌, ◌-◌, ◌*◌, ◌%◌, ◌^◌, ◌<◌, ◌≤◌, Bool, cond, nat_lt, ◌⊎◌, sym, ap, ◌∙◌}
 use Rattle.std.proofs.Common.{subst, ap₂, inl, inr, mul-le-mul_right, mul-le-mul_left, pow-suc, arith}
 use Rattle.std.proofs.lemmas.Bool.{cases_lt}
 use Rattle.std.proofs.lemmas.Bool.Decides.{nat_tests}
+use Rattle.std.proofs.lemmas.Nat.{same_from_place}
+use native.Mathlib.Nat.{mul_left_comm, mul-lt-mul_of_pos_left}
 use Rattle.whole.proofs.Powers.{power_le, power_split}
-use Rattle.whole.proofs.Quotients.{same_quotient}
 use Rattle.rounding.specs.Rounding.{raise}
 
 -- T = d V + w with B ≤ d < P, and T is rounded to d + b units
@@ -28,10 +29,9 @@ pub raise_few : (u d r : ℕ) → raise u d r ≤ 1
 raise_few u d r = let half : d % 2 ≤ 1 = omega arith in grind (arith, nat_tests, half)
 
 -- a comparison in finer units
-ltb_scaled : (K a b : ℕ) → 0 < K → ltb (K * a) (K * b) ≡ ltb a b
+ltb_scaled : (K a b : ℕ) → 0 < K → nat_lt (K * a) (K * b) ≡ nat_lt a b
 ltb_scaled K a b some = elim (cases_lt a b) [
-  | inl h ↦ (let m : K * (a + 1) ≤ K * b = mul-le-mul_left K (omega arith) in
-      let l : K * a < K * b = omega arith in grind (arith, nat_tests))
+  | inl h ↦ (let l : K * a < K * b = mul-lt-mul_of_pos_left h some in grind (arith, nat_tests))
   | inr h ↦ (let l : K * b ≤ K * a = mul-le-mul_left K h in grind (arith, nat_tests))
 ]
 
@@ -42,14 +42,11 @@ raise_scaled K u d r some =
 pub scaled_place : (K B P V T d w b : ℕ) → 0 < K → Placed B P V T d w b → Placed B P (K * V) (K * T) d (K * w) b
 scaled_place K B P V T d w b some l = record {
   is = omega (arith, ap (λ (n : ℕ). K * n) l.is);
-  w_lt = (let m : K * (w + 1) ≤ K * V = mul-le-mul_left K (omega (arith, l.w_lt)) in omega arith);
+  w_lt = mul-lt-mul_of_pos_left l.w_lt some;
   d_lo = l.d_lo;
   d_hi = l.d_hi;
-  raised = l.raised ∙ sym (raise_scaled K V d (2 * w) some) ∙ ap (raise (K * V) d) (swap K w);
+  raised = l.raised ∙ sym (raise_scaled K V d (2 * w) some) ∙ ap (raise (K * V) d) (mul_left_comm K 2 w);
 }
-  where
-    swap : (K w : ℕ) → K * (2 * w) ≡ 2 * (K * w)
-    swap K w = omega arith
 
 -- what lies below an even unit of a truncated number N counts only by being there: ρ of K more
 pub sticky : (B P U K N q a ρ : ℕ) → U % 2 ≡ 0 → N ≡ q * U + a → a < U → B ≤ q → q < P → 0 < ρ → ρ < K
@@ -108,6 +105,6 @@ module _ (β p : ℕ) (two : 2 ≤ β) (some : 1 ≤ p) where
       (place_lo (β ^ j) T e v c m) (place_hi (β ^ j) T e v c m) in
       let m' : Placed (β ^ (p - 1)) (β ^ p) (β ^ i) T e v c =
       subst (λ (k : ℕ). Placed (β ^ (p - 1)) (β ^ p) (β ^ k) T e v c) (sym ij) m in
-      let q = same_quotient (β ^ i) d w e v (sym l.is ∙ m'.is) l.w_lt m'.w_lt in
+      let q = same_from_place d w e v (β ^ i) l.w_lt m'.w_lt (sym l.is ∙ m'.is) in
       let bc : b ≡ c = l.raised ∙ ap₂ (λ (x y : ℕ). raise (β ^ i) x (2 * y)) q.0 q.1 ∙ sym m'.raised in
       (ij, ap₂ (λ (x y : ℕ). x + y) q.0 bc)

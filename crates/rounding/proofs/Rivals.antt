@@ -2,11 +2,10 @@
 -- in a tie.
 use Rattle.std.proofs.Common.{◌≡◌, ℕ, suc, ◌+◌, ◌-◌, ◌*◌, ◌%◌, ◌^◌, ◌<◌, ◌≤◌, ◌⊎◌, sym, ap, ◌∙◌, inl, inr}
 use Rattle.std.proofs.Common.{mul-le-mul_right, mul_assoc, mul-le-mul_left, mul-lt-mul_of_pos_right, pow-suc, arith}
-use Rattle.std.proofs.lemmas.Bool.{cases_lt}
-use Rattle.whole.proofs.Comparisons.{order}
+use Rattle.std.proofs.lemmas.Bool.{cases_lt, cases_order}
+use native.Mathlib.Nat.{eq_of_mul-eq-mul_right}
 use Rattle.whole.proofs.Distances.{gap}
 use Rattle.whole.proofs.Powers.{power_pos, power_le, power_parts}
-use Rattle.whole.proofs.Quotients.{cancel_eq}
 use Rattle.rounding.proofs.Places.{Placed, raise_less, raise_more, raise_tie, raise_few}
 
 -- G is a multiple of V, or lies below B V
@@ -45,10 +44,10 @@ module _ (B P V T d w b : ℕ) (some : 1 ≤ B) (place : Placed B P V T d w b) w
       record { one = z; half = h; far = omega (arith, place.is, place.w_lt) }
 
   way : Down ⊎ Up
-  way = elim (order (2 * w) V) [
-    | inl h ↦ inl (down (place.raised ∙ raise_less V d (2 * w) h) (omega arith))
+  way = elim (cases_order (2 * w) V) [
+    | inr (inl h) ↦ inl (down (place.raised ∙ raise_less V d (2 * w) h) (omega arith))
     | inr (inr h) ↦ inr (up (place.raised ∙ raise_more V d (2 * w) h) (omega arith))
-    | inr (inl h) ↦ (let few : b ≤ 1 = omega (arith, place.raised, raise_few V d (2 * w)) in elim (cases_lt 0 b) [
+    | inl h ↦ (let few : b ≤ 1 = omega (arith, place.raised, raise_few V d (2 * w)) in elim (cases_lt 0 b) [
       | inl g ↦ inr (up (omega arith) (omega arith))
       | inr g ↦ inl (down (omega arith) (omega arith))
     ])
@@ -109,12 +108,12 @@ module _ (B P V T d w b : ℕ) (some : 1 ≤ B) (place : Placed B P V T d w b) w
         | inl a ↦ omega (arith, a.far, place.is)
         | inr a ↦ omega (arith, a.half, a.far, place.is)
       ])
-  rival G (inl (m, g)) e = elim (order m d) [
-    | inl l ↦ absurd (let k : (m + 1) * V ≤ d * V = mul-le-mul_right V (omega arith) in elim way [
+  rival G (inl (m, g)) e = elim (cases_order m d) [
+    | inr (inl l) ↦ absurd (let k : (m + 1) * V ≤ d * V = mul-le-mul_right V (omega arith) in elim way [
       | inl a ↦ omega (arith, a.far, place.is, V_pos)
       | inr a ↦ omega (arith, a.half, a.far, place.is, V_pos)
     ])
-    | inr (inl l) ↦ elim way [
+    | inl l ↦ elim way [
       | inl a ↦ inl (g ∙ ap (λ (n : ℕ). n * V) (omega (arith, a.none)))
       | inr a ↦
           let k : m * V ≡ d * V = ap (λ (n : ℕ). n * V) l in
@@ -174,10 +173,10 @@ module _ (β B P : ℕ) (two : 2 ≤ β) (some : 1 ≤ B) (PB : P ≡ β * B) wh
 
   -- a number has one normal form
   pub same_form : (s t i l : ℕ) → B ≤ s → s < P → B ≤ t → t < P → s * β ^ i ≡ t * β ^ l → (s ≡ t) × (i ≡ l)
-  same_form s t i l a b c d e = elim (order i l) [
-    | inl g ↦ absurd (clash s t i l b c g e)
+  same_form s t i l a b c d e = elim (cases_order i l) [
+    | inr (inl g) ↦ absurd (clash s t i l b c g e)
     | inr (inr g) ↦ absurd (clash t s l i d a g (sym e))
-    | inr (inl g) ↦ (cancel_eq s t (β ^ l) (power_pos β l two) (ap (λ (n : ℕ). s * β ^ n) (sym g) ∙ e), g)
+    | inl g ↦ (eq_of_mul-eq-mul_right (β ^ l) (power_pos β l two) s t (ap (λ (n : ℕ). s * β ^ n) (sym g) ∙ e), g)
   ]
     where
       clash : (s t i l : ℕ) → s < P → B ≤ t → i < l → s * β ^ i ≡ t * β ^ l → ⊥

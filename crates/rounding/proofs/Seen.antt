@@ -1,13 +1,13 @@
 -- A number that is not zero and its rounded figure, counted in any unit as fine as the widened digits.
-use Rattle.std.proofs.Common.{◌≡◌, ℕ, ◌+◌, ◌-◌, ◌*◌, ◌%◌, ◌^◌, ◌<◌, ◌≤◌, Bool, cond, ◌⊎◌, ℤ, pos, ◌+ℤ◌, ◌-ℤ◌, ◌*ℤ◌}
-use Rattle.std.proofs.Common.{nat_abs, ◌≤ℤ◌, sym, refl, ap, ◌∙◌, subst, inl, inr, mul-le-mul_right, mul_left_comm}
-use Rattle.std.proofs.Common.{arith}
+use Rattle.std.proofs.Common.{◌≡◌, ℕ, suc, ◌+◌, ◌-◌, ◌*◌, ◌%◌, ◌^◌, ◌<◌, ◌≤◌, Bool, cond, ◌⊎◌, ℤ, pos, ◌+ℤ◌, ◌-ℤ◌}
+use Rattle.std.proofs.Common.{◌*ℤ◌, unsigned_abs, ◌≤ℤ◌, sym, refl, ap, ◌∙◌, subst, inl, inr, mul-le-mul_right}
+use Rattle.std.proofs.Common.{mul_left_comm, arith}
 use borrow.Author.Differences.{ints}
+use Rattle.std.proofs.lemmas.Bool.Decides.{leb_tells}
 use Rattle.whole.proofs.Powers.{power_pos, power_split, power_parts, power_even, power_one}
 use Rattle.rounding.specs.declared.Figure.{Figure}
 use Rattle.rounding.specs.Exact.{Exact, value, units}
 use Rattle.rounding.specs.Rounding.{negative, signed, carried, widened, rounded}
-use Rattle.rounding.proofs.Tests.{by_ltb}
 use Rattle.rounding.proofs.Places.{Placed, raise_few, scaled_place}
 use Rattle.rounding.proofs.Computed.{Found, found}
 use Rattle.rounding.proofs.Signs.{signed_size, signed_times}
@@ -26,9 +26,10 @@ pub carried_cases : (β p : ℕ) (neg : Bool) (s : ℕ) (q : ℤ) (f : Figure) �
 carried_cases β p neg s q f e =
     let pick : Bool → Figure = λ b. cond b (record { s = signed neg s; q = q })
     (record { s = signed neg (β ^ (p - 1)); q = q +ℤ pos 1 }) in
-    by_ltb (Plain β p neg s q f ⊎ Carry β p neg s q f) s (β ^ p)
-    (λ l t. inl (record { fits = l; is = e ∙ ap pick t }))
-    (λ l t. inr (record { full = l; is = e ∙ ap pick t }))
+    elim (leb_tells (suc s) (β ^ p)) [
+      | inl h ↦ inl (record { fits = omega (arith, h.1); is = e ∙ ap pick h.0 })
+      | inr h ↦ inr (record { full = omega (arith, h.1); is = e ∙ ap pick h.0 })
+    ]
 
 -- in units of β^k, x is T and its figure f is (d + b) β^l
 pub record Seen (β p : ℕ) (x : Exact) (f : Figure) (k : ℤ) : Type 0 where
@@ -36,15 +37,15 @@ pub record Seen (β p : ℕ) (x : Exact) (f : Figure) (k : ℤ) : Type 0 where
   pub d : ℕ
   pub w : ℕ
   pub b : ℕ
-  pub place : Placed (β ^ (p - 1)) (β ^ p) (β ^ l) (nat_abs x.m * β ^ nat_abs (x.e -ℤ k)) d w b
+  pub place : Placed (β ^ (p - 1)) (β ^ p) (β ^ l) (unsigned_abs x.m * β ^ unsigned_abs (x.e -ℤ k)) d w b
   pub is : units β k (value f) ≡ signed (negative x.m) ((d + b) * β ^ l)
   pub below : k ≤ℤ f.q
-  pub least : β ^ (p - 1) ≤ nat_abs f.s
-  pub most : nat_abs f.s < β ^ p
-  pub sign : f.s ≡ signed (negative x.m) (nat_abs f.s)
-  pub parity : (d + b) % 2 ≡ 0 → nat_abs f.s % 2 ≡ 0
+  pub least : β ^ (p - 1) ≤ unsigned_abs f.s
+  pub most : unsigned_abs f.s < β ^ p
+  pub sign : f.s ≡ signed (negative x.m) (unsigned_abs f.s)
+  pub parity : (d + b) % 2 ≡ 0 → unsigned_abs f.s % 2 ≡ 0
 
-module _ (β p : ℕ) (even : β % 2 ≡ 0) (two : 2 ≤ β) (some : 2 ≤ p) (x : Exact) (full : 0 < nat_abs x.m) where
+module _ (β p : ℕ) (even : β % 2 ≡ 0) (two : 2 ≤ β) (some : 2 ≤ p) (x : Exact) (full : 0 < unsigned_abs x.m) where
   one : 1 ≤ p
   one = omega arith
 
@@ -96,17 +97,19 @@ module _ (β p : ℕ) (even : β % 2 ≡ 0) (two : 2 ≤ β) (some : 2 ≤ p) (x
       q = x.e -ℤ pos (p - 1) +ℤ pos f.j
 
       c : ℕ
-      c = nat_abs (x.e -ℤ pos (p - 1) -ℤ k)
+      c = unsigned_abs (x.e -ℤ pos (p - 1) -ℤ k)
 
       -- the widened digits in units of β^k
-      spread : (e : ℤ) → k ≤ℤ (e -ℤ pos (p - 1)) → nat_abs (e -ℤ pos (p - 1) -ℤ k) + (p - 1) ≡ nat_abs (e -ℤ k)
+      spread : (e : ℤ) → k ≤ℤ (e -ℤ pos (p - 1))
+          → unsigned_abs (e -ℤ pos (p - 1) -ℤ k) + (p - 1) ≡ unsigned_abs (e -ℤ k)
       spread e h = omega (arith, ints)
 
-      wide : β ^ c * widened β p x ≡ nat_abs x.m * β ^ nat_abs (x.e -ℤ k)
-      wide = mul_left_comm (β ^ c) (nat_abs x.m) (β ^ (p - 1))
-          ∙ ap (λ (n : ℕ). nat_abs x.m * n) (sym (power_parts β c (p - 1) (nat_abs (x.e -ℤ k)) (spread x.e fine)))
+      wide : β ^ c * widened β p x ≡ unsigned_abs x.m * β ^ unsigned_abs (x.e -ℤ k)
+      wide = mul_left_comm (β ^ c) (unsigned_abs x.m) (β ^ (p - 1))
+          ∙ ap (λ (n : ℕ). unsigned_abs x.m * n)
+          (sym (power_parts β c (p - 1) (unsigned_abs (x.e -ℤ k)) (spread x.e fine)))
 
-      place : Placed (β ^ (p - 1)) (β ^ p) (β ^ (c + f.j)) (nat_abs x.m * β ^ nat_abs (x.e -ℤ k))
+      place : Placed (β ^ (p - 1)) (β ^ p) (β ^ (c + f.j)) (unsigned_abs x.m * β ^ unsigned_abs (x.e -ℤ k))
           f.d (β ^ c * f.w) f.b
       place =
           subst (λ (T : ℕ). Placed (β ^ (p - 1)) (β ^ p) (β ^ (c + f.j)) T f.d (β ^ c * f.w) f.b) wide
@@ -123,20 +126,20 @@ module _ (β p : ℕ) (even : β % 2 ≡ 0) (two : 2 ≤ β) (some : 2 ≤ p) (x
       under_next e j h = omega (arith, ints)
 
       reach : (e : ℤ) (j : ℕ) → k ≤ℤ (e -ℤ pos (p - 1))
-          → nat_abs (e -ℤ pos (p - 1) +ℤ pos j -ℤ k) ≡ nat_abs (e -ℤ pos (p - 1) -ℤ k) + j
+          → unsigned_abs (e -ℤ pos (p - 1) +ℤ pos j -ℤ k) ≡ unsigned_abs (e -ℤ pos (p - 1) -ℤ k) + j
       reach e j h = omega (arith, ints)
 
       reach_next : (e : ℤ) (j : ℕ) → k ≤ℤ (e -ℤ pos (p - 1))
-          → nat_abs (e -ℤ pos (p - 1) +ℤ pos j +ℤ pos 1 -ℤ k) ≡ 1 + (nat_abs (e -ℤ pos (p - 1) -ℤ k) + j)
+          → unsigned_abs (e -ℤ pos (p - 1) +ℤ pos j +ℤ pos 1 -ℤ k) ≡ 1 + (unsigned_abs (e -ℤ pos (p - 1) -ℤ k) + j)
       reach_next e j h = omega (arith, ints)
 
       -- significands
-      size : Plain β p (negative x.m) (f.d + f.b) q (rounded β p x) → nat_abs (rounded β p x).s ≡ f.d + f.b
-      size h = ap (λ (g : Figure). nat_abs g.s) h.is ∙ signed_size (negative x.m) (f.d + f.b)
+      size : Plain β p (negative x.m) (f.d + f.b) q (rounded β p x) → unsigned_abs (rounded β p x).s ≡ f.d + f.b
+      size h = ap (λ (g : Figure). unsigned_abs g.s) h.is ∙ signed_size (negative x.m) (f.d + f.b)
 
       least_size : Carry β p (negative x.m) (f.d + f.b) q (rounded β p x)
-          → nat_abs (rounded β p x).s ≡ β ^ (p - 1)
-      least_size h = ap (λ (g : Figure). nat_abs g.s) h.is ∙ signed_size (negative x.m) (β ^ (p - 1))
+          → unsigned_abs (rounded β p x).s ≡ β ^ (p - 1)
+      least_size h = ap (λ (g : Figure). unsigned_abs g.s) h.is ∙ signed_size (negative x.m) (β ^ (p - 1))
 
       whole : Carry β p (negative x.m) (f.d + f.b) q (rounded β p x) → f.d + f.b ≡ β ^ p
       whole h = omega (arith, h.full, f.place.d_hi, f.place.raised, raise_few (β ^ f.j) f.d (2 * f.w))

@@ -1,39 +1,39 @@
 -- Counting in finer units multiplies by a power of the radix; and a sum in either order.
-use Rattle.std.proofs.Common.{◌≡◌, ℕ, ◌+◌, ◌*◌, ◌^◌, ℤ, pos, ◌+ℤ◌, ◌-ℤ◌, ◌*ℤ◌, neg_ℤ, nat_abs, ◌≤ℤ◌, sym, ap, ◌∙◌}
+use Rattle.std.proofs.Common.{◌≡◌, ℕ, ◌+◌, ◌*◌, ◌^◌, ℤ, pos, ◌+ℤ◌, ◌-ℤ◌, ◌*ℤ◌, neg_ℤ, unsigned_abs, ◌≤ℤ◌, sym, ap, ◌∙◌}
 use Rattle.std.proofs.Common.{ap₂, arith, pow-add}
 use lib.IntN.{+ℤ_comm}
 use borrow.Author.Differences.{ints}
 use Rattle.std.specs.Int.{int_min}
-use Rattle.std.proofs.lemmas.Int.{clamps}
-use Rattle.whole.proofs.Integers.{*ℤ-assoc, +ℤ-*ℤ, neg_left, nat_abs_mul}
+use Rattle.std.proofs.lemmas.Int.{clamps, unsigned_abs-mul}
+use Rattle.whole.proofs.Integers.{*ℤ-assoc, +ℤ-*ℤ, neg_left}
 use Rattle.rounding.specs.declared.Figure.{Figure}
 use Rattle.rounding.specs.Exact.{Exact, value, units, plus, distance}
 
 pub units_finer : (β : ℕ) (k l : ℤ) (x : Exact) → k ≤ℤ l → l ≤ℤ x.e
-    → units β k x ≡ units β l x *ℤ pos (β ^ nat_abs (l -ℤ k))
+    → units β k x ≡ units β l x *ℤ pos (β ^ unsigned_abs (l -ℤ k))
 units_finer β k l x kl lx =
     ap (λ (n : ℕ). x.m *ℤ pos (β ^ n)) (far x.e kl lx)
-    ∙ ap (λ (n : ℕ). x.m *ℤ pos n) (pow-add β (nat_abs (x.e -ℤ l)) (nat_abs (l -ℤ k)))
-    ∙ sym (*ℤ-assoc x.m (pos (β ^ nat_abs (x.e -ℤ l))) (pos (β ^ nat_abs (l -ℤ k))))
+    ∙ ap (λ (n : ℕ). x.m *ℤ pos n) (pow-add β (unsigned_abs (x.e -ℤ l)) (unsigned_abs (l -ℤ k)))
+    ∙ sym (*ℤ-assoc x.m (pos (β ^ unsigned_abs (x.e -ℤ l))) (pos (β ^ unsigned_abs (l -ℤ k))))
   where
-    far : (e : ℤ) → k ≤ℤ l → l ≤ℤ e → nat_abs (e -ℤ k) ≡ nat_abs (e -ℤ l) + nat_abs (l -ℤ k)
+    far : (e : ℤ) → k ≤ℤ l → l ≤ℤ e → unsigned_abs (e -ℤ k) ≡ unsigned_abs (e -ℤ l) + unsigned_abs (l -ℤ k)
     far e a b = omega (arith, ints)
 
-times_apart : (a b : ℤ) (E : ℕ) → nat_abs (a *ℤ pos E -ℤ b *ℤ pos E) ≡ nat_abs (a -ℤ b) * E
+times_apart : (a b : ℤ) (E : ℕ) → unsigned_abs (a *ℤ pos E -ℤ b *ℤ pos E) ≡ unsigned_abs (a -ℤ b) * E
 times_apart a b E =
-    ap nat_abs (ap (λ (z : ℤ). a *ℤ pos E +ℤ z) (sym (neg_left b (pos E))) ∙ sym (+ℤ-*ℤ a (neg_ℤ b) (pos E)))
-    ∙ nat_abs_mul (a -ℤ b) (pos E)
+    ap unsigned_abs (ap (λ (z : ℤ). a *ℤ pos E +ℤ z) (sym (neg_left b (pos E))) ∙ sym (+ℤ-*ℤ a (neg_ℤ b) (pos E)))
+    ∙ unsigned_abs-mul (a -ℤ b) (pos E)
 
 pub distance_finer : (β : ℕ) (k l : ℤ) (x y : Exact) → k ≤ℤ l → l ≤ℤ x.e → l ≤ℤ y.e
-    → distance β k x y ≡ distance β l x y * β ^ nat_abs (l -ℤ k)
+    → distance β k x y ≡ distance β l x y * β ^ unsigned_abs (l -ℤ k)
 distance_finer β k l x y kl lx ly =
-    ap nat_abs (ap₂ (λ (a b : ℤ). a -ℤ b) (units_finer β k l x kl lx) (units_finer β k l y kl ly))
-    ∙ times_apart (units β l x) (units β l y) (β ^ nat_abs (l -ℤ k))
+    ap unsigned_abs (ap₂ (λ (a b : ℤ). a -ℤ b) (units_finer β k l x kl lx) (units_finer β k l y kl ly))
+    ∙ times_apart (units β l x) (units β l y) (β ^ unsigned_abs (l -ℤ k))
 
 -- the size of a figure in units of β^k
 pub units_size : (β : ℕ) (g : Figure) (k : ℤ)
-    → nat_abs (units β k (value g)) ≡ nat_abs g.s * β ^ nat_abs (g.q -ℤ k)
-units_size β g k = nat_abs_mul g.s (pos (β ^ nat_abs (g.q -ℤ k)))
+    → unsigned_abs (units β k (value g)) ≡ unsigned_abs g.s * β ^ unsigned_abs (g.q -ℤ k)
+units_size β g k = unsigned_abs-mul g.s (pos (β ^ unsigned_abs (g.q -ℤ k)))
 
 pub plus_comm : (β : ℕ) (x y : Exact) → plus β x y ≡ plus β y x
 plus_comm β x y =

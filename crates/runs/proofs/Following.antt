@@ -1,6 +1,6 @@
 -- The answer to every call keeps track and follows from the calls before it.
-use Rattle.std.proofs.Common.{◌≡◌, ℕ, ◌+◌, ◌<◌, Bool, true, false, cond, ltb, ◌⊎◌, List, Some, None, Ok, Err, Option}
-use Rattle.std.proofs.Common.{Result, sym, refl, ap, ◌∙◌, subst, inl, inr}
+use Rattle.std.proofs.Common.{◌≡◌, ℕ, ◌+◌, ◌<◌, Bool, true, false, cond, nat_lt, ◌⊎◌, List, Some, None, Ok, Err}
+use Rattle.std.proofs.Common.{Option, Result, sym, refl, ap, ◌∙◌, subst, inl, inr}
 use Rattle.rounding.specs.declared.Figure.{Figure}
 use Rattle.rounding.specs.declared.Refusal.TheVariants.{LaneFull, PhasorRange}
 use Rattle.rounding.specs.Operations.{reaches}
@@ -76,7 +76,7 @@ module _ (β p : ℕ) (kind : IsKind β p) (N D : ℕ) (m : Function) (law : IsR
     same_foreseen i c d = go (no_lane i) refl
       where
         rest : ℕ → Option ℕ
-        rest n = first (fault β p c) (first (fault β p d) (cond (ltb n 1000000) None (Some (number LaneFull))))
+        rest n = first (fault β p c) (first (fault β p d) (cond (nat_lt n 1000000) None (Some (number LaneFull))))
 
         go : (o : Option ℕ) → no_lane i ≡ o → first o (rest (at ls i).count) ≡ first o (rest (course β i h).turns)
         go (Some e) is = refl
@@ -89,7 +89,7 @@ module _ (β p : ℕ) (kind : IsKind β p) (N D : ℕ) (m : Function) (law : IsR
     only_strays i c d none =
         let w = (at ls i).phasor in
         let late = first (faults β p w.real w.imaginary c d) (strayed (product_by m w c d)) in
-        let full = cond (ltb (course β i h).turns 1000000) None (Some (number LaneFull)) in
+        let full = cond (nat_lt (course β i h).turns 1000000) None (Some (number LaneFull)) in
         let outer = none_first (no_lane i) (first (fault β p c) (first (fault β p d) full)) none in
         let inner = none_first (fault β p c) (first (fault β p d) full) outer.1 in
         let last = none_first (fault β p d) full inner.1 in

@@ -1,6 +1,6 @@
--- Laws of ℤ that the library lacks: associativity and distributivity of the product, and sizes of products.
-use Rattle.std.proofs.Common.{◌≡◌, ℕ, suc, ◌+◌, ◌*◌, ℤ, pos, negsuc, ◌+ℤ◌, ◌*ℤ◌, neg_ℤ, nat_abs, sym, refl, ap, ◌∙◌}
-use Rattle.std.proofs.Common.{ap₂, arith}
+-- Laws of ℤ that the library lacks: associativity and distributivity of the product, and opposites.
+use Rattle.std.proofs.Common.{◌≡◌, ℕ, ◌+◌, ◌*◌, ℤ, pos, negsuc, ◌+ℤ◌, ◌*ℤ◌, neg_ℤ, unsigned_abs, sym, ap, ◌∙◌, ap₂}
+use Rattle.std.proofs.Common.{arith}
 use borrow.Author.Differences.{up, down, same_in, sum_is_lem, neg_is, product_is, ints}
 use lib.IntN.{*ℤ_comm}
 
@@ -43,11 +43,5 @@ minus_one a = same_in _ _ (simp (up_product, down_product) (omega (arith, neg_is
 pub neg_left : (a b : ℤ) → neg_ℤ a *ℤ b ≡ neg_ℤ (a *ℤ b)
 neg_left a b = ap (λ (z : ℤ). z *ℤ b) (sym (minus_one a)) ∙ *ℤ-assoc (negsuc 0) a b ∙ minus_one (a *ℤ b)
 
-pub nat_abs_neg : (z : ℤ) → nat_abs (neg_ℤ z) ≡ nat_abs z
-nat_abs_neg z = omega (arith, ints)
-
-pub nat_abs_mul : (a b : ℤ) → nat_abs (a *ℤ b) ≡ nat_abs a * nat_abs b
-nat_abs_mul (pos a) (pos b) = refl
-nat_abs_mul (pos a) (negsuc b) = nat_abs_neg (pos (a * suc b))
-nat_abs_mul (negsuc a) (pos b) = nat_abs_neg (pos (suc a * b))
-nat_abs_mul (negsuc a) (negsuc b) = refl
+pub unsigned_abs_neg : (z : ℤ) → unsigned_abs (neg_ℤ z) ≡ unsigned_abs z
+unsigned_abs_neg z = omega (arith, ints)

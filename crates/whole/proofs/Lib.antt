@@ -3,6 +3,5 @@ pub mod Linear
 pub mod Powers
 pub mod Comparisons
 pub mod Distances
-pub mod Quotients
 pub mod Polynomials
 pub mod Identities

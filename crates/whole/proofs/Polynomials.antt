@@ -1,7 +1,7 @@
 -- Expressions over ℤ are brought to polynomials by computation; those whose difference is the zero polynomial are
 -- equal.
-use Rattle.std.proofs.Common.{◌≡◌, ℕ, zero, suc, Bool, true, false, T, eqb, leb, List, [], ◌∷◌, ℤ, pos, negsuc, ◌+ℤ◌}
-use Rattle.std.proofs.Common.{◌*ℤ◌, neg_ℤ, sym, refl, ap, ◌∙◌, subst, ap₂, arith, eqb→eq}
+use Rattle.std.proofs.Common.{◌≡◌, ℕ, zero, suc, Bool, true, false, T, ◌==◌, nat_le, List, [], ◌∷◌, ℤ, pos, negsuc}
+use Rattle.std.proofs.Common.{◌+ℤ◌, ◌*ℤ◌, neg_ℤ, sym, refl, ap, ◌∙◌, subst, ap₂, arith, eqb→eq}
 use Prim.Native.Nat.{compare, Ordering}
 use lib.Dec.{compare_is_eq}
 use lib.IntN.{*ℤ_comm, *ℤ-zero, zero-*ℤ, +ℤ_comm, +ℤ_assoc, +ℤ_idl, +ℤ_idr}
@@ -55,7 +55,7 @@ order (i ∷ m) (j ∷ n) = elim (compare i j) [
 
 abbrev pub insert : ℕ → List ℕ → List ℕ
 insert i [] = i ∷ []
-insert i (j ∷ m) = elim (leb i j) [ true ↦ i ∷ j ∷ m | false ↦ j ∷ insert i m ]
+insert i (j ∷ m) = elim (nat_le i j) [ true ↦ i ∷ j ∷ m | false ↦ j ∷ insert i m ]
 
 abbrev pub merge : List ℕ → List ℕ → List ℕ
 merge [] n = n
@@ -91,7 +91,7 @@ normal (a ⊗ b) = times (normal a) (normal b)
 normal (opposite a) = scale (negsuc 0) [] (normal a)
 
 abbrev pub is_zero : ℤ → Bool
-is_zero (pos n) = eqb n 0
+is_zero (pos n) = n == 0
 is_zero (negsuc n) = false
 
 abbrev pub vanishes : Polynomial → Bool
@@ -126,7 +126,7 @@ module _ (ρ : List ℤ) where
 
   insert_is : (i : ℕ) (m : List ℕ) → monomial ρ (insert i m) ≡ look ρ i *ℤ monomial ρ m
   insert_is i [] = refl
-  insert_is i (j ∷ m) = go (insert_is i m) (leb i j)
+  insert_is i (j ∷ m) = go (insert_is i m) (nat_le i j)
     where
       go : monomial ρ (insert i m) ≡ look ρ i *ℤ monomial ρ m → (b : Bool)
           → monomial ρ (elim b [ true ↦ i ∷ j ∷ m | false ↦ j ∷ insert i m ])

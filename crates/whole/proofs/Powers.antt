@@ -1,7 +1,7 @@
 -- Powers of a radix: positive, ordered as their exponents are, even where the radix is.
-use Rattle.std.proofs.Common.{◌≡◌, ℕ, suc, ◌+◌, ◌-◌, ◌*◌, ◌/◌, ◌%◌, ◌^◌, ◌<◌, ◌≤◌, sym, ap, ◌∙◌, inl, inr, mul_comm}
-use Rattle.std.proofs.Common.{pow-suc, mul-one, arith, pow-add}
-use native.Mathlib.Nat.{one-le-pow, pow-le-pow_right, pow-le-pow_left, pow-zero}
+use Rattle.std.proofs.Common.{◌≡◌, ℕ, suc, ◌+◌, ◌-◌, ◌*◌, ◌/◌, ◌%◌, ◌^◌, ◌<◌, ◌≤◌, sym, ap, ◌∙◌, inl, inr, pow-suc}
+use Rattle.std.proofs.Common.{arith, pow-add}
+use native.Mathlib.Nat.{one-le-pow, pow-le-pow_right, pow-le-pow_left, pow-zero, pow-succ', one-mul}
 use Rattle.std.proofs.lemmas.Bool.{cases_lt}
 
 pub power_pos : (β k : ℕ) → 2 ≤ β → 1 ≤ β ^ k
@@ -21,17 +21,14 @@ pub power_below : (β k n : ℕ) → 2 ≤ β → β ^ k < 2 ^ n → k < n
 power_below β k n two h = power_order 2 k n (omega arith) (omega (arith, pow-le-pow_left two k))
 
 pub power_one : (β : ℕ) → β ^ 1 ≡ β
-power_one β = pow-suc β 0 ∙ ap (λ (n : ℕ). n * β) (pow-zero β) ∙ mul_comm 1 β ∙ mul-one β
+power_one β = rw (pow-suc, pow-zero) (one-mul β)
 
 -- β^p is β times the power before it
 pub power_split : (β p : ℕ) → 1 ≤ p → β ^ p ≡ β * β ^ (p - 1)
-power_split β p some = ap (λ (n : ℕ). β ^ n) (there p some) ∙ pow-suc β (p - 1) ∙ mul_comm (β ^ (p - 1)) β
+power_split β p some = ap (λ (n : ℕ). β ^ n) (there p some) ∙ pow-succ' β (p - 1)
   where
     there : (p : ℕ) → 1 ≤ p → p ≡ suc (p - 1)
     there p h = omega arith
-
-pub power_next : (β k : ℕ) → β ^ suc k ≡ β * β ^ k
-power_next β k = pow-suc β k ∙ mul_comm (β ^ k) β
 
 -- a power taken in two parts
 pub power_parts : (β i j k : ℕ) → i + j ≡ k → β ^ k ≡ β ^ i * β ^ j

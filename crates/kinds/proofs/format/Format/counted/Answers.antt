@@ -1,7 +1,6 @@
 -- The loop keeps `Counting`, which at its end names the digits.
 use Rattle.std.proofs.Common.{◌*◌, ◌<◌, arith}
-use Rattle.kinds.proofs.Words.{counting_grows}
-use Rattle.kinds.proofs.Words.{counting_more, counting_end}
+use Rattle.kinds.proofs.Words.{counting_grows, counting_more, counting_end}
 use Rattle.kinds.proofs.format.Format.counted.Goals as goal
 use Rattle.kinds.proofs.format.Format.counted.Goals.{then-self-n, else-self-n}
 
