@@ -49,7 +49,8 @@ operand : (β p : ℕ) (f : Figure) → fault β p f ≡ None → Operand β p f
 operand β p f e = go (is_figure β p f) (reaches 200 f) refl refl e
   where
     go : (a b : Bool) → is_figure β p f ≡ a → reaches 200 f ≡ b
-        → (if a then (if b then None else Some (number OperandRange)) else Some (number OperandNoFigure)) ≡ None → Operand β p f
+        → (if a then (if b then None else Some (number OperandRange)) else Some (number OperandNoFigure)) ≡ None
+        → Operand β p f
     go true true x y h = record { figure = x; near = grind (arith, nat_tests) }
     go true false x y h = cc
     go false b x y h = cc

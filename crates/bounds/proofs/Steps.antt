@@ -127,7 +127,8 @@ module _ (β B : ℕ) (ground : Ground β B) (rn : ℤ → ℤ) (law : Laws β B
   pub flip_close : (P E : ℤ) → Close (neg_ℤ P) (neg_ℤ E) → Close P E
   flip_close P E c =
       let a : rn (rn (neg_ℤ P) +ℤ rn (neg_ℤ E)) ≡ neg_ℤ (rn (rn P +ℤ rn E)) =
-      ap rn (ap₂ (λ (a b : ℤ). a +ℤ b) (law.odd P) (law.odd E) ∙ sym (neg_ℤ-+ℤ (rn P) (rn E))) ∙ law.odd (rn P +ℤ rn E) in
+      ap rn (ap₂ (λ (a b : ℤ). a +ℤ b) (law.odd P) (law.odd E) ∙ sym (neg_ℤ-+ℤ (rn P) (rn E)))
+      ∙ law.odd (rn P +ℤ rn E) in
       let far : unsigned_abs (rn (rn (neg_ℤ P) +ℤ rn (neg_ℤ E)) -ℤ (neg_ℤ P +ℤ neg_ℤ E))
       ≡ unsigned_abs (rn (rn P +ℤ rn E) -ℤ (P +ℤ E)) =
       ap (λ (z : ℤ). unsigned_abs (z -ℤ (neg_ℤ P +ℤ neg_ℤ E))) a ∙ neg_gap (rn (rn P +ℤ rn E)) P E in

@@ -71,7 +71,8 @@ module _ (β p : ℕ) (kind : IsKind β p) (N D : ℕ) where
       put_is ls j l there =
           let t : nat_lt j 10 ≡ true = grind (arith, nat_tests) in ap (λ (b : Bool). cond b (set ls j l) ls) t
 
-      same : ((i == j) ≡ true) × (i ≡ j) → Tracks β p N D (if i == j then f (course β i h) else course β i h) (at (set ls j l) i)
+      same : ((i == j) ≡ true) × (i ≡ j)
+          → Tracks β p N D (if i == j then f (course β i h) else course β i h) (at (set ls j l) i)
       same e =
           let ten = track.ten in
           let inside : j < length ls = omega arith in
