@@ -11,7 +11,7 @@ pub struct Pair {
     pub answer: Figure,
 }
 
-// An operation on three figures with its answer.
+// An operation on three figures with its answer: a type of its own, so that no row of two has a third without meaning.
 pub struct Triple {
     pub x: Figure,
     pub y: Figure,

@@ -32,7 +32,8 @@ fn steps<A: Arithmetic>(a: Figure, b: Figure, c: Figure, d: Figure) -> Result<Fi
     A::add(f, e)
 }
 
-// What is proved of the definitions: no step of an accepted four refuses, and the answer is near.
+// What is proved of the definitions: no step of an accepted four refuses, and the answer is near. It stands beside
+// `apply`: named on that, the theorems are not found, since they take a law of a bound.
 fn answer_is_near<A: Arithmetic>(a: Figure, b: Figure, c: Figure, d: Figure)
     ensures answer { Accepted A.RADIX A.PRECISION a b c d
         → kahan_steps A.RADIX A.PRECISION a b c d ≡ Ok (kahan A.RADIX A.PRECISION a b c d) }

@@ -14,7 +14,8 @@ use methods::check_operands;
 use methods::method::Method;
 use rounding::{Figure, Refusal};
 
-// What is proved of an accepted four: the method accepts it in the orders in which it is given it below, b turned.
+// What is proved of an accepted four: the method accepts it in the orders in which it is given it below, b turned. It
+// stands beside the calls, since the theorems take a law of a bound and are not found from there.
 fn stays_accepted<K: Kind>(a: Figure, b: Figure, c: Figure, d: Figure)
     ensures turned { Accepted K.RADIX K.PRECISION a b c d → flipped b ≡ opposite b }
     ensures determinant { Accepted K.RADIX K.PRECISION a b c d

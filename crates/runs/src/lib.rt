@@ -67,7 +67,7 @@ fn answer_to<M: Method>(console: &mut Console<M>, call: Call) -> Result<Answer, 
     }
 }
 
-// What is proved of a call.
+// What is proved of a call, beside it as in `console`.
 fn call_law<M: Method>(console: &Console<M>, call: Call)
     ensures { CallLaw M.Arith.RADIX M.Arith.PRECISION (M.Method.num console.now.method)
         (M.Method.den console.now.method) (M.Method.answer console.now.method)

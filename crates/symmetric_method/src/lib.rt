@@ -38,7 +38,7 @@ fn steps<A: BinaryArithmetic>(a: Figure, b: Figure, c: Figure, d: Figure) -> Res
 }
 
 // What is proved of the definitions: no step of an accepted four refuses, the answer is near, and exchanging the two
-// products does not change it.
+// products does not change it. It stands beside `apply` as that of Kahan's method does.
 fn answer_is_near<A: BinaryArithmetic>(a: Figure, b: Figure, c: Figure, d: Figure)
     ensures answer { Accepted A.RADIX A.PRECISION a b c d
         → symmetric_steps A.RADIX A.PRECISION a b c d
