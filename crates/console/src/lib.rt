@@ -1,7 +1,7 @@
 // A console: one method, and ten lanes whose phasors turn. The operands of a call stand apart, as in `products`; so do
-// c and d of a turn, as its refusals are of c before d. What is proved of a call, for any radix, precision and method, is
-// the contract of a function with no body beside it: named on the call itself, the theorem is not found, since it takes
-// a law of a bound, and an answer by hand would stand before the edits of the call.
+// c and d of a turn, as its refusals are of c before d. What is proved of a call, for any radix, precision and method,
+// is the contract of a function with no body beside it: named on the call itself, the theorem is not found, since it
+// takes a law of a bound, and an answer by hand would stand before the edits of the call.
 #![tactic(auto)]
 
 ghost use Rattle.std.specs.Prelude.{◌≡◌, ◌+◌, []};

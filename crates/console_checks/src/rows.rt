@@ -1,4 +1,4 @@
-// Rows of the tables: a call, with its answer or its refusal. A pair is written on fewer lines than an `Entry` would be.
+// Rows of the tables: a call, with its answer or its refusal. (A pair takes fewer lines than an `Entry` would.)
 use histories::Call;
 use rounding::Refusal;
 use runs::Answer;

@@ -1,5 +1,5 @@
-// The sums, determinants and complex products that the program shows. (Two of the sums are shown on consoles too, by the
-// other program, as calls of another type.)
+// The sums, determinants and complex products that the program shows. (Two of the sums are shown on consoles too, by
+// the other program, as calls of another type.)
 use checked_calls::calls::{Arrangement, Call};
 use rounding::figure;
 use sentences::Four;

@@ -4,7 +4,8 @@
 
 use rounding::Figure;
 
-// A call of a console, as histories record it; calls made with no console are another enum, of `checked_calls`. The operands of the first three are a, b, c, d; a turn has the lane and the factor c + di.
+// A call of a console, as histories record it; calls made with no console are another enum, of `checked_calls`. The
+// operands of the first three are a, b, c, d; a turn has the lane and the factor c + di.
 #[derive(Clone, Copy)]
 pub enum Call {
     Sum(Figure, Figure, Figure, Figure),

@@ -9,7 +9,7 @@ use kinds::format::Format;
 
 impl Term {
     // The sum of the term and of a number of units of its size, where something lies below the units unless `below` is
-    // 0. Against a larger size of the other sign, one unit is borrowed for it. (Its bounds are those of this step alone.)
+    // 0. Against a larger size of the other sign, one unit is borrowed for it. (The bounds are of this step alone.)
     fn joined(self, other: bool, above: u64, below: u64) -> Truncated
         requires size { self.size + above < 2 ^ 62 }
         requires exponent { unsigned_abs self.exponent ≤ 5000 }
