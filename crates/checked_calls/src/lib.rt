@@ -12,7 +12,7 @@ use rounding::figure;
 
 pub mod calls;
 
-// The definitions give each of the thirteen answers.
+// The definitions give each of the thirteen answers. (A theorem is called in a body, so that an edit can leave it out.)
 fn definitions_give()
     ensures { ExamplesHold }
 {}

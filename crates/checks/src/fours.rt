@@ -61,7 +61,8 @@ fn decimal_kahan_rows() -> Result<(), Fail> {
     rows_stand(&DECIMAL, &decimal_kahan::FOURS)
 }
 
-// Passes only where every call on the four is refused with `want`.
+// Passes only where every call on the four is refused with `want`. (With the last call in the place of `Ok`, its clause
+// does not prove.)
 fn four_refused<M: Method>(
     method: &M,
     a: Figure,

@@ -11,7 +11,7 @@ use runs::Answer::{Count, Shown};
 use std::test::Fail;
 
 // A lane is turned by the radix until its exponent is 200, and another by the radix's inverse until it is -200; once
-// more and it would stray, whichever part holds it. `least` is the least significand, of so many digits.
+// more and it would stray, whichever part holds it.
 fn driven<M: Method>(console: &mut Console<M>) -> Result<(), Fail> {
     let format = Format::of::<M::Arith>();
     let digits = format.precision;

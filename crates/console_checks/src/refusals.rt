@@ -64,7 +64,7 @@ fn wear<M: Method>(console: &mut Console<M>) -> Result<(), Fail> {
 }
 
 // Every refusal of every call, the earlier one where two apply, on two new consoles of one method, of which only the
-// first is asked. `least` is the least significand.
+// first is asked.
 fn refusals<M: Method>(console: &mut Console<M>, twin: &mut Console<M>) -> Result<(), Fail> {
     wear(console)?;
     wear(twin)?;

@@ -51,7 +51,8 @@ const BEYOND: Figure = figure!(8388608, 201);
 
 const NONE: Figure = figure!(1, 0);
 
-// 16777215/4 times 16777219, a tie that the methods take to either side.
+// 16777215/4 times 16777219, a tie that the methods take to either side. (The other program shows this sum and the next
+// too, as calls of another type.)
 const DIFFERING: Call = Call::Sum(
     figure!(16777215, 0),
     figure!(8388610, -2),

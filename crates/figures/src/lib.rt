@@ -36,7 +36,8 @@ pub fn one<K: Kind>() -> Figure
     }
 }
 
-// -s at the same exponent. A function and no operator, since it is total: the smallest word stays as it is.
+// -s at the same exponent. A function and no operator: it is total, and a reader would take `-f` to fail or to wrap at
+// the smallest word, which stays as it is.
 pub fn opposite(f: Figure) -> Figure
     ensures { result ≡ flipped f }
 {

@@ -16,7 +16,8 @@ use verdict::Verdict;
 
 pub mod verdict;
 
-// The difference ab - cd: the time of one lane less that of the other.
+// The difference ab - cd: the time of one lane less that of the other. It has no arrangement, as the fours that are
+// printed have: that is asked for beside it.
 #[derive(Clone, Copy)]
 pub struct Heat {
     pub a: Figure,

@@ -51,7 +51,7 @@ fn within_range(f: Figure) -> Result<Figure, Refusal>
     }
 }
 
-// Refuses what is no figure of the kind.
+// Refuses what is no figure of the kind, by an operation's refusal; methods have a test of their own.
 fn check_operand(format: Format, f: Figure) -> Result<(), Refusal>
     ensures fault { fault_of result ≡ no_figure format.radix format.precision f }
     ensures small { OnOk result (IsOperand format.top f) }

@@ -10,13 +10,13 @@ use kinds::powers::scaled;
 use rounding::Figure;
 
 // The quotient, or one more where the remainder, with something below it if sticky, is past half the unit; in a tie
-// the even one of the two.
+// the even one of the two. (Two tests of words, each of which an edit can turn, where `cmp` would have three arms.)
 fn evened(quotient: u64, remainder: u64, unit: u64, sticky: bool) -> u64
     requires remainder { 2 * remainder + 1 < 2 ^ 64 }
     requires quotient { quotient + 1 < 2 ^ 64 }
     ensures { result ≡ quotient + raise unit quotient (2 * remainder + one_if sticky) }
 {
-    let twice = 2 * remainder + if sticky { 1 } else { 0 };
+    let twice = 2 * remainder + u64::from(sticky);
     if twice < unit {
         quotient
     } else if twice > unit {

@@ -19,10 +19,7 @@ impl Term {
         let (negative, size) = if self.negative == other {
             (other, self.size + above)
         } else if above < self.size {
-            (
-                self.negative,
-                self.size - above - if sticky { 1 } else { 0 },
-            )
+            (self.negative, self.size - above - u64::from(sticky))
         } else {
             (other, above - self.size)
         };

@@ -88,7 +88,7 @@ impl Format {
         count
     }
 
-    // How many digits n has: one for 0.
+    // How many digits n has: one for 0. That they are few is handed on from both ways of counting them.
     pub fn digits(self, n: u64) -> u32
         ensures is { result ≡ digits self.radix n }
         ensures few { result ≤ 64 }

@@ -57,7 +57,8 @@ impl<A: Arithmetic> Method for Kahan<A> {
 
     ghost reliable = { λ m. kahan_reliable _ _ A.kind };
 
-    // The answer is within 1/B of ab + cd, and within (β + 1)/2 units of its last place.
+    // The answer is within 1/B of ab + cd, and within (β + 1)/2 units of its last place: bounds of its own, for which
+    // each method writes its `apply`.
     fn apply(&self, a: Figure, b: Figure, c: Figure, d: Figure) -> Result<Figure, Refusal>
         ensures answer { coded result ≡ unless (faults A.RADIX A.PRECISION a b c d)
             (kahan A.RADIX A.PRECISION a b c d) }

@@ -92,7 +92,8 @@ pub fn perform<M: Method>(console: &mut Console<M>, call: Call) -> Result<Answer
     answer_to(console, call)
 }
 
-// Makes the calls of the entries in order, and writes each answer beside its call.
+// Makes the calls of the entries in order, and writes each answer beside its call. That the calls stay is said here and
+// in `run`, since it is no fact about one value.
 fn make_all<M: Method>(console: &mut Console<M>, entries: &mut [Entry])
     ensures calls { calls_of entries.new ≡ calls_of entries.old }
     ensures answers { answers_of entries.new ≡ answers_to M.Arith.RADIX M.Arith.PRECISION
@@ -113,7 +114,7 @@ fn make_all<M: Method>(console: &mut Console<M>, entries: &mut [Entry])
     }
 }
 
-// What is proved of rounding and of both methods.
+// What is proved of rounding and of both methods: called in a body, so that an edit can leave it out.
 fn methods_are_accurate()
     ensures rounding { RoundsToNearest }
     ensures place { UlpIsLastPlace }

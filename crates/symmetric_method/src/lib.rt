@@ -62,7 +62,8 @@ impl<A: BinaryArithmetic> Method for Symmetric<A> {
 
     ghost reliable = { λ m. symmetric_reliable _ _ A.kind };
 
-    // The answer is within (4B² + 7B + 3)/(4B³) of ab + cd, and it is the answer to c, d, a, b.
+    // The answer is within (4B² + 7B + 3)/(4B³) of ab + cd, and it is the answer to c, d, a, b: bounds of its own, for
+    // which each method writes its `apply`.
     fn apply(&self, a: Figure, b: Figure, c: Figure, d: Figure) -> Result<Figure, Refusal>
         ensures answer { coded result ≡ unless (faults A.RADIX A.PRECISION a b c d)
             (symmetric A.RADIX A.PRECISION a b c d) }
