@@ -1,9 +1,9 @@
 // A console: one method, and ten lanes whose phasors turn. The operands of a call stand apart, as in `products`; so do
 // c and d of a turn, as its refusals are of c before d. What is proved of a call, for any radix, precision and method,
-// is the contract of a function with no body beside it: named on the call itself, the theorem is not found, since it
-// takes a law of a bound, and an answer by hand would stand before the edits of the call. Clauses name radix,
-// precision, allowance and function of the method one by one, since the laws of histories hold of any, and a definition
-// cannot name a bound's members; that a call leaves the method is no fact about one value, so that each call says it.
+// is the contract of a function with no body beside it: named on `new` itself, the theorem was not found, and an answer
+// by hand would stand before the edits of the call. Clauses name radix, precision, allowance and function of the method
+// one by one, since the laws of histories hold of any, and a definition cannot name a bound's members; that a call
+// leaves the method is no fact about one value, so that each call says it.
 #![tactic(auto)]
 
 ghost use Rattle.std.specs.Prelude.{◌≡◌, ◌+◌, []};

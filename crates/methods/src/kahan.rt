@@ -32,20 +32,6 @@ fn steps<A: Arithmetic>(a: Figure, b: Figure, c: Figure, d: Figure) -> Result<Fi
     A::add(f, e)
 }
 
-// What is proved of the definitions: no step of an accepted four refuses, and the answer is near. It stands beside
-// `apply`: named on that, the theorems are not found, since they take a law of a bound.
-fn answer_is_near<A: Arithmetic>(a: Figure, b: Figure, c: Figure, d: Figure)
-    ensures answer { Accepted A.RADIX A.PRECISION a b c d
-        → kahan_steps A.RADIX A.PRECISION a b c d ≡ Ok (kahan A.RADIX A.PRECISION a b c d) }
-    ensures within { Accepted A.RADIX A.PRECISION a b c d
-        → Within A.RADIX 1 (A.RADIX ^ (A.PRECISION - 1))
-        (value (kahan A.RADIX A.PRECISION a b c d)) (exact_sum A.RADIX a b c d) }
-    ensures places { Accepted A.RADIX A.PRECISION a b c d
-        → WithinPlaces A.RADIX A.PRECISION (A.RADIX + 1) 2
-        (value (kahan A.RADIX A.PRECISION a b c d)) (exact_sum A.RADIX a b c d) }
-    ensures last { UlpIsLastPlace }
-{}
-
 impl<A: Arithmetic> Method for Kahan<A> {
     type Arith = A;
 
@@ -59,6 +45,7 @@ impl<A: Arithmetic> Method for Kahan<A> {
 
     // The answer is within 1/B of ab + cd, and within (β + 1)/2 units of its last place: bounds of its own, for which
     // each method writes its `apply`.
+    #[tactic(auto, using(crate::proofs::Theorems::kahan_is_near))]
     fn apply(&self, a: Figure, b: Figure, c: Figure, d: Figure) -> Result<Figure, Refusal>
         ensures answer { coded result ≡ unless (faults A.RADIX A.PRECISION a b c d)
             (kahan A.RADIX A.PRECISION a b c d) }
@@ -68,7 +55,6 @@ impl<A: Arithmetic> Method for Kahan<A> {
             (value f) (exact_sum A.RADIX a b c d)) }
         ensures last { UlpIsLastPlace }
     {
-        answer_is_near::<A>(a, b, c, d);
         check_operands(Format::of::<A>(), a, b, c, d)?;
         steps::<A>(a, b, c, d)
     }

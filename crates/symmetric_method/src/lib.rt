@@ -37,20 +37,6 @@ fn steps<A: BinaryArithmetic>(a: Figure, b: Figure, c: Figure, d: Figure) -> Res
     A::add(r, e)
 }
 
-// What is proved of the definitions: no step of an accepted four refuses, the answer is near, and exchanging the two
-// products does not change it. It stands beside `apply` as that of Kahan's method does.
-fn answer_is_near<A: BinaryArithmetic>(a: Figure, b: Figure, c: Figure, d: Figure)
-    ensures answer { Accepted A.RADIX A.PRECISION a b c d
-        → symmetric_steps A.RADIX A.PRECISION a b c d
-        ≡ Ok (symmetric A.RADIX A.PRECISION a b c d) }
-    ensures within { Accepted A.RADIX A.PRECISION a b c d
-        → Within A.RADIX (limit_num (A.RADIX ^ (A.PRECISION - 1)))
-        (limit_den (A.RADIX ^ (A.PRECISION - 1)))
-        (value (symmetric A.RADIX A.PRECISION a b c d)) (exact_sum A.RADIX a b c d) }
-    ensures exchanged { symmetric A.RADIX A.PRECISION a b c d
-        ≡ symmetric A.RADIX A.PRECISION c d a b }
-{}
-
 impl<A: BinaryArithmetic> Method for Symmetric<A> {
     type Arith = A;
 
@@ -64,6 +50,7 @@ impl<A: BinaryArithmetic> Method for Symmetric<A> {
 
     // The answer is within (4B² + 7B + 3)/(4B³) of ab + cd, and it is the answer to c, d, a, b: bounds of its own, for
     // which each method writes its `apply`.
+    #[tactic(auto, using(crate::proofs::Theorems::symmetric_is_near))]
     fn apply(&self, a: Figure, b: Figure, c: Figure, d: Figure) -> Result<Figure, Refusal>
         ensures answer { coded result ≡ unless (faults A.RADIX A.PRECISION a b c d)
             (symmetric A.RADIX A.PRECISION a b c d) }
@@ -71,7 +58,6 @@ impl<A: BinaryArithmetic> Method for Symmetric<A> {
             (limit_den (A.RADIX ^ (A.PRECISION - 1))) (value f) (exact_sum A.RADIX a b c d)) }
         ensures exchanged { IfOk result (λ f. f ≡ symmetric A.RADIX A.PRECISION c d a b) }
     {
-        answer_is_near::<A>(a, b, c, d);
         check_operands(Format::of::<A>(), a, b, c, d)?;
         steps::<A>(a, b, c, d)
     }
