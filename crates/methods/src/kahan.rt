@@ -1,12 +1,11 @@
 // Kahan's method: one product is rounded, its error is kept, the other product is added to both.
-ghost use Rattle.std.specs.Prelude.{◌≡◌, ◌+◌, ◌-◌, ◌^◌, IfOk, None, Ok};
+ghost use Rattle.std.specs.Prelude.{◌≡◌, ◌+◌, ◌-◌, ◌^◌, IfOk};
 ghost use Rattle.rounding.specs.Exact.{value};
 ghost use Rattle.rounding.specs.Errors.{Within, WithinPlaces, UlpIsLastPlace};
 ghost use Rattle.rounding.specs.Refusals.{unless, coded};
-ghost use Rattle.bounds.specs.Fours.{faults, Accepted, exact_sum};
+ghost use Rattle.bounds.specs.Fours.{faults, exact_sum};
 ghost use Rattle.bounds.specs.Kahan.{kahan, kahan_steps};
 ghost use Rattle.bounds.proofs.Answers.{kahan_reliable};
-ghost use Rattle.std.proofs.Common.{rules};
 
 use crate::check_operands;
 use crate::method::Method;

@@ -4,8 +4,8 @@
 
 ghost use Rattle.std.specs.Prelude.{◌≡◌};
 ghost use Rattle.rounding.specs.Refusals.{unless, coded};
-ghost use Rattle.figures.specs.Figures.{opposite, flipped};
-ghost use Rattle.bounds.specs.Fours.{faults, Accepted};
+ghost use Rattle.figures.specs.Figures.{opposite};
+ghost use Rattle.bounds.specs.Fours.{faults};
 
 use figures::opposite;
 use kinds::format::Format;

@@ -1,13 +1,13 @@
 // Calls made of a console one after the other, and what all of them together promise.
 #![tactic(auto)]
 
-ghost use Rattle.std.specs.Prelude.{◌≡◌, []};
+ghost use Rattle.std.specs.Prelude.{◌≡◌};
 ghost use Rattle.rounding.specs.Errors.{UlpIsLastPlace};
 ghost use Rattle.rounding.specs.Nearest.{RoundsToNearest};
 ghost use Rattle.rounding.specs.Refusals.{coded};
 ghost use Rattle.bounds.specs.Accuracy.{KahanIsAccurate, SymmetricIsAccurate};
 ghost use Rattle.lanes.specs.Lanes.{fresh_lanes};
-ghost use Rattle.histories.specs.Tracking.{TrackHistory, event, KeepsTrack};
+ghost use Rattle.histories.specs.Tracking.{event, KeepsTrack};
 ghost use Rattle.runs.specs.Answers.{answer_to, lanes_after};
 ghost use Rattle.runs.specs.Following.{FollowsTrack, CallLaw};
 ghost use Rattle.runs.specs.Entries.{unmade, calls_of, answers_of, answers_to, lanes_after_all, RunTracked};

@@ -2,11 +2,11 @@
 // order of the products does not matter. It stands over binary arithmetics.
 #![tactic(auto)]
 
-ghost use Rattle.std.specs.Prelude.{◌≡◌, ◌-◌, ◌^◌, IfOk, Ok};
+ghost use Rattle.std.specs.Prelude.{◌≡◌, ◌-◌, ◌^◌, IfOk};
 ghost use Rattle.rounding.specs.Exact.{value};
 ghost use Rattle.rounding.specs.Errors.{Within};
 ghost use Rattle.rounding.specs.Refusals.{unless, coded};
-ghost use Rattle.bounds.specs.Fours.{faults, Accepted, exact_sum, limit_num, limit_den};
+ghost use Rattle.bounds.specs.Fours.{faults, exact_sum, limit_num, limit_den};
 ghost use Rattle.bounds.specs.Symmetric.{symmetric, symmetric_steps};
 ghost use Rattle.bounds.proofs.Answers.{symmetric_reliable};
 
