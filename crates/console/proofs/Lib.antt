@@ -1,3 +1,4 @@
 mod Outcomes
+pub mod FewTurns
 mod Steps
 mod Laws

@@ -6,7 +6,7 @@
 // leaves the method is no fact about one value, so that each call says it.
 #![tactic(auto)]
 
-ghost use Rattle.std.specs.Prelude.{◌≡◌, ◌+◌, []};
+ghost use Rattle.std.specs.Prelude.{◌≡◌, ◌+◌, ◌≤◌, [], IfOk};
 ghost use Rattle.rounding.specs.Refusals.{unless, coded};
 ghost use Rattle.figures.specs.Figures.{opposite};
 ghost use Rattle.bounds.specs.Fours.{faults};
@@ -37,11 +37,14 @@ pub struct Console<M: Method> {
 }
 
 impl<M: Method> Model for Console<M> {
+    ghost use Rattle.lanes.specs.Turning.{FewTurns};
     ghost use Rattle.console.specs.State.{State};
 
     ghost Value = { State M };
 
     ghost view = { λ console. record { method = console.method; lanes = console.lanes } };
+
+    ghost invariant = { λ console. FewTurns console.lanes };
 }
 
 // What a lane shows: its count, and both parts of its phasor. Users see it; a `Lane` is what the table holds.
@@ -142,15 +145,17 @@ impl<M: Method> Console<M> {
 
     // The lane of this number.
     fn lane(&self, number: u8) -> Result<Lane, Refusal>
-        ensures { coded result ≡ unless (no_lane number) (at self.now.lanes number) }
+        ensures few { IfOk result (λ lane. lane.count ≤ 1000000) }
+        ensures lane { coded result ≡ unless (no_lane number) (at self.now.lanes number) }
     {
         self.lanes.get(number).ok_or(Refusal::NoLane)
     }
 
     // The lane of this number, turned by c + di.
     fn turned_lane(&self, lane: u8, c: Figure, d: Figure) -> Result<Lane, Refusal>
-        ensures { coded result ≡ turn_steps M.Arith.RADIX M.Arith.PRECISION
+        ensures steps { coded result ≡ turn_steps M.Arith.RADIX M.Arith.PRECISION
             (M.Method.answer self.now.method) self.now.lanes lane c d }
+        ensures few { IfOk result (λ turned. turned.count ≤ 1000000) }
     {
         let old = self.lane(lane)?;
         let format = Format::of::<M::Arith>();
@@ -168,10 +173,12 @@ impl<M: Method> Console<M> {
 
     // Turns a lane by c + di: its phasor becomes its complex product with c + di, and its count, which is
     // the answer, rises by one.
+    #[tactic(auto, using(crate::proofs::FewTurns::few_put))]
     pub fn turn(&mut self, lane: u8, c: Figure, d: Figure) -> Result<u32, Refusal>
         ensures answer { coded result ≡ unless (turn_fault M.Arith.RADIX M.Arith.PRECISION
             (M.Method.answer self.old.method) self.old.lanes lane c d)
             ((at self.old.lanes lane).count + 1) }
+        ensures few { IfOk result (λ count. count ≤ 1000000) }
         ensures lanes { self.new.lanes ≡ after_turn M.Arith.RADIX M.Arith.PRECISION
             (M.Method.answer self.old.method) self.old.lanes lane c d }
         ensures method { self.new.method ≡ self.old.method }
@@ -215,6 +222,7 @@ impl<M: Method> Console<M> {
     pub fn read(&self, lane: u8) -> Result<Reading, Refusal>
         ensures answer { coded result ≡ unless (no_lane lane)
             (reading_of (at self.now.lanes lane)) }
+        ensures few { IfOk result (λ reading. reading.count ≤ 1000000) }
         ensures track { KeepsTrack M.Arith.RADIX M.Arith.PRECISION
             (M.Method.num self.now.method) (M.Method.den self.now.method)
             (event (Read lane) (coded result))

@@ -1,5 +1,5 @@
 // A turn of a lane, step by step. Each step may refuse.
-ghost use Rattle.std.specs.Prelude.{◌≡◌, ◌<◌, OnOk};
+ghost use Rattle.std.specs.Prelude.{◌≡◌, ◌<◌, ◌≤◌, OnOk, IfOk};
 ghost use Rattle.rounding.specs.Refusals.{coded, fault_of};
 ghost use Rattle.lanes.specs.Turning.{full, strayed};
 ghost use Rattle.console.specs.Steps.{product_steps, lane_steps};
@@ -54,8 +54,9 @@ pub(crate) fn turned<M: Method>(
     c: Figure,
     d: Figure,
 ) -> Result<Lane, Refusal>
-    ensures { coded result ≡ lane_steps M.Arith.RADIX M.Arith.PRECISION
+    ensures steps { coded result ≡ lane_steps M.Arith.RADIX M.Arith.PRECISION
         (M.Method.answer method.now) lane c d }
+    ensures few { IfOk result (λ turned. turned.count ≤ 1000000) }
 {
     check_room(lane)?;
     let phasor = product_by(method, lane.phasor, c, d)?;

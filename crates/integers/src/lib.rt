@@ -38,6 +38,8 @@ impl<K: Kind> Kind for Integers<K> {
     ghost MARK = { K.MARK };
 
     ghost kind = { K.kind };
+
+    ghost marked = { K.marked };
 }
 
 // The figure, unless its exponent is outside -2000..2000.

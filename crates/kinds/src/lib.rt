@@ -2,8 +2,8 @@
 #![tactic(auto)]
 
 ghost use Rattle.std.specs.Prelude.{ℕ};
-ghost use Rattle.kinds.specs.Kinds.{IsKind};
-ghost use Rattle.kinds.specs.Constants.{binary_is_kind, decimal_is_kind};
+ghost use Rattle.kinds.specs.Kinds.{IsKind, IsMark};
+ghost use Rattle.kinds.specs.Constants.{binary_is_kind, decimal_is_kind, p_is_mark, e_is_mark};
 
 pub mod format;
 pub mod powers;
@@ -24,6 +24,8 @@ pub trait Kind {
     ghost MARK: { ℕ };
 
     ghost kind: { IsKind RADIX PRECISION };
+
+    ghost marked: { IsMark MARK };
 }
 
 // 24 binary digits, marked p.
@@ -44,6 +46,8 @@ impl Kind for Binary {
     ghost MARK = { 112 };
 
     ghost kind = { binary_is_kind };
+
+    ghost marked = { p_is_mark };
 }
 
 // Seven decimal digits, marked e.
@@ -64,4 +68,6 @@ impl Kind for Decimal {
     ghost MARK = { 101 };
 
     ghost kind = { decimal_is_kind };
+
+    ghost marked = { e_is_mark };
 }

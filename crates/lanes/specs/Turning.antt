@@ -1,5 +1,5 @@
 -- What a turn and a restart make of the lanes, and what stops them.
-use Rattle.std.specs.Prelude.{ℕ, ◌+◌, if◌then◌else◌, List, Some, None, Option, nat_lt}
+use Rattle.std.specs.Prelude.{ℕ, ◌+◌, ◌≤◌, if◌then◌else◌, List, Some, None, Option, nat_lt}
 use Rattle.rounding.specs.declared.Figure.{Figure}
 use Rattle.rounding.specs.declared.Refusal.TheVariants.{NoLane, LaneFull, PhasorRange}
 use Rattle.rounding.specs.Operations.{reaches}
@@ -14,6 +14,10 @@ use Rattle.lanes.specs.Lanes.{at, put, fresh_lane}
 -- the lane is not 0 to 9
 abbrev pub no_lane : ℕ → Option ℕ
 no_lane i = if nat_lt i 10 then None else Some (number NoLane)
+
+-- no lane has been turned more than 1,000,000 times
+abbrev pub FewTurns : List Lane → Type 0
+FewTurns ls = (i : ℕ) → (at ls i).count ≤ 1000000
 
 -- the lane has been turned 1,000,000 times
 abbrev pub full : Lane → Option ℕ

@@ -4,6 +4,7 @@ use Rattle.std.specs.Prelude.{ℕ, Some, None, Ok, Err, Option, Result}
 use Rattle.rounding.specs.declared.Refusal.{Refusal}
 use Rattle.rounding.specs.declared.Refusal.TheVariants.{NoFigure, ResultRange, OperandNoFigure, OperandRange}
 use Rattle.rounding.specs.declared.Refusal.TheVariants.{NoLane, LaneFull, PhasorRange}
+use Rattle.rounding.specs.declared.Refusal.TheVariants.{LineTooLong, WordCount, UnknownVerb, NoNumber, OtherMark}
 
 abbrev pub number : Refusal → ℕ
 number NoFigure = 11
@@ -13,6 +14,11 @@ number OperandRange = 22
 number NoLane = 31
 number LaneFull = 32
 number PhasorRange = 33
+number LineTooLong = 41
+number WordCount = 42
+number UnknownVerb = 43
+number NoNumber = 44
+number OtherMark = 45
 
 -- a call's answer, with the number of its refusal
 abbrev pub coded : {X : Type 0} → Result X Refusal → Result X ℕ

@@ -35,7 +35,7 @@ impl Figure {
     }
 }
 
-// Why a call is stopped, with the number by which tables and reports show it.
+// Why a call, a row or a line is stopped, with the number by which tables and reports show it.
 #[derive(Clone, Copy, Debug, PartialEq, Eq)]
 pub enum Refusal {
     // an operand of an operation is no figure of the kind
@@ -52,6 +52,16 @@ pub enum Refusal {
     LaneFull = 32,
     // a turn would bring a part of the phasor outside the exponents -200..200
     PhasorRange = 33,
+    // a line has more than 80 bytes
+    LineTooLong = 41,
+    // the number of words does not fit the verb
+    WordCount = 42,
+    // the verb of a line, or the code of a row, is unknown
+    UnknownVerb = 43,
+    // a word is no number, or no lane
+    NoNumber = 44,
+    // a number has the other kind's mark
+    OtherMark = 45,
 }
 
 impl From<Refusal> for u8 {

@@ -1,5 +1,5 @@
 -- What a console answers to a call, and the lanes that it then holds.
-use Rattle.std.specs.Prelude.{ℕ, ◌+◌, List, Ok, Err, Result}
+use Rattle.std.specs.Prelude.{ℕ, ◌+◌, ◌≤◌, List, Ok, Err, Result}
 use Rattle.rounding.specs.declared.Figure.{Figure}
 use Rattle.rounding.specs.Refusals.{unless}
 use Rattle.figures.specs.Figures.{opposite}
@@ -39,3 +39,10 @@ lanes_after β p m ls (Product a b c d) = ls
 lanes_after β p m ls (Turn i c d) = after_turn β p m ls i c d
 lanes_after β p m ls (Restart i) = after_restart β p ls i
 lanes_after β p m ls (Read i) = ls
+
+-- an answer that shows a count shows at most 1,000,000
+abbrev pub ShowsFew : Answer → Type 0
+ShowsFew (Value f) = Unit {0}
+ShowsFew (Parts a b) = Unit {0}
+ShowsFew (Count n) = n ≤ 1000000
+ShowsFew (Shown reading) = reading.count ≤ 1000000

@@ -32,6 +32,17 @@ abbrev pub lanes_after_all : ℕ → ℕ → Function → List Lane → List Cal
 lanes_after_all β p m ls [] = ls
 lanes_after_all β p m ls (c ∷ cs) = lanes_after_all β p m (lanes_after β p m ls c) cs
 
+-- the history h, and after it these calls with what they answer
+abbrev pub history_after : ℕ → ℕ → Function → List Lane → List Call → History → History
+history_after β p m ls [] h = h
+history_after β p m ls (c ∷ cs) h =
+    history_after β p m (lanes_after β p m ls c) cs (event c (answer_to β p m ls c) ∷ h)
+
+-- whatever history the lanes tracked before these calls, afterwards they track that history with the calls
+pub record AllKeepTrack (β p N D : ℕ) (m : Function) (ls : List Lane) (calls : List Call) : Type 0 where
+  pub keep : (h : History) → TrackHistory β p N D h ls
+      → TrackHistory β p N D (history_after β p m ls calls h) (lanes_after_all β p m ls calls)
+
 -- an entry as an event
 abbrev pub recorded : Entry → Event
 recorded e = event e.call (coded e.answer)

@@ -1,14 +1,14 @@
 // Calls made of a console one after the other, and what all of them together promise.
 #![tactic(auto)]
 
-ghost use Rattle.std.specs.Prelude.{◌≡◌};
+ghost use Rattle.std.specs.Prelude.{◌≡◌, IfOk};
 ghost use Rattle.rounding.specs.Errors.{UlpIsLastPlace};
 ghost use Rattle.rounding.specs.Nearest.{RoundsToNearest};
 ghost use Rattle.rounding.specs.Refusals.{coded};
 ghost use Rattle.bounds.specs.Accuracy.{KahanIsAccurate, SymmetricIsAccurate};
 ghost use Rattle.lanes.specs.Lanes.{fresh_lanes};
 ghost use Rattle.histories.specs.Tracking.{event, KeepsTrack};
-ghost use Rattle.runs.specs.Answers.{answer_to, lanes_after};
+ghost use Rattle.runs.specs.Answers.{answer_to, lanes_after, ShowsFew};
 ghost use Rattle.runs.specs.Following.{FollowsTrack, CallLaw};
 ghost use Rattle.runs.specs.Entries.{unmade, calls_of, answers_of, answers_to, lanes_after_all, RunTracked};
 
@@ -51,6 +51,7 @@ impl Entry {
 fn answer_to<M: Method>(console: &mut Console<M>, call: Call) -> Result<Answer, Refusal>
     ensures answer { coded result ≡ answer_to M.Arith.RADIX M.Arith.PRECISION
         (M.Method.answer console.old.method) console.old.lanes call }
+    ensures few { IfOk result ShowsFew }
     ensures lanes { console.new.lanes ≡ lanes_after M.Arith.RADIX M.Arith.PRECISION
         (M.Method.answer console.old.method) console.old.lanes call }
     ensures method { console.new.method ≡ console.old.method }
@@ -78,6 +79,7 @@ fn call_law<M: Method>(console: &Console<M>, call: Call)
 pub fn perform<M: Method>(console: &mut Console<M>, call: Call) -> Result<Answer, Refusal>
     ensures answer { coded result ≡ answer_to M.Arith.RADIX M.Arith.PRECISION
         (M.Method.answer console.old.method) console.old.lanes call }
+    ensures few { IfOk result ShowsFew }
     ensures lanes { console.new.lanes ≡ lanes_after M.Arith.RADIX M.Arith.PRECISION
         (M.Method.answer console.old.method) console.old.lanes call }
     ensures method { console.new.method ≡ console.old.method }
