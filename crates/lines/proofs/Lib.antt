@@ -1,0 +1,4 @@
+-- What the proofs of this crate share.
+pub mod Cuts
+pub mod Laws
+pub mod Spaces

@@ -1,0 +1,3 @@
+mod Verbs
+mod Words
+pub mod Requests
