@@ -12,6 +12,7 @@ use Rattle.std.specs.Str.Parse.{digits_value}
 use Rattle.reading.specs.Words.{value_of, is_unfit, natural_of, lane_of}
 use Rattle.reading.specs.Spellings.{IsLane, IsTheOne}
 
+-- std's lemmas on decimal digits, for std's words
 pub own : IsNumeralModel (λ ds. all_ascii_digits ds ≡ true) (digits_value 10)
 own = numerals_by_value _ tells_all_ascii_digits
 
@@ -97,11 +98,18 @@ value_below most ds few = go (all_ascii_digits ds) refl
     go true digits = digits_value_short own ds most digits few
     go false digits = tt
 
+-- a lane reads back, and what reads as a lane is its text
+pub lane_decimal : (n : ℕ) → n < 100 → lane_of (decimal n) ≡ Some n
+unfolding lane_of
+lane_decimal n below = natural_decimal 2 n (omega arith) (omega arith) below
+
+pub decimal_lane : (word : List ℕ) (n : ℕ) → lane_of word ≡ Some n → IsLane word n
+unfolding lane_of
+decimal_lane word n read =
+    let lane = decimal_natural 2 word n (omega arith) read in record { text = lane.0; below = lane.1 }
+
 -- a word reads as the lane of which it is the text, and as no other
 pub read_as_lane : (word : List ℕ) (r : Option ℕ) → r ≡ lane_of word → IsTheOne (IsLane word) r
-unfolding lane_of IsTheOne
-read_as_lane word r is n = (
-  λ read. let lane = decimal_natural 2 word n (omega arith) (sym is ∙ read) in
-      record { text = lane.0; below = lane.1 },
-  λ text. is ∙ (ap lane_of text.text ∙ natural_decimal 2 n (omega arith) (omega arith) text.below),
-)
+unfolding IsTheOne
+read_as_lane word r is n =
+    (λ read. decimal_lane word n (sym is ∙ read), λ text. is ∙ (ap lane_of text.text ∙ lane_decimal n text.below))

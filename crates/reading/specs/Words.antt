@@ -15,6 +15,7 @@ value_of ds = if all_ascii_digits ds then Some (digits_value 10 ds) else None
 abbrev pub is_unfit : ℕ → List ℕ → Bool
 is_unfit most ds = length ds == 0 || (nat_lt most (length ds) || (slice_index ds 0 == 48 && nat_lt 1 (length ds)))
 
+-- one to `most` digits
 unfoldable pub natural_of : ℕ → List ℕ → Option ℕ
 natural_of most ds = if is_unfit most ds then None else value_of ds
 

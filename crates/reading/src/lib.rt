@@ -1,8 +1,7 @@
-// What a word reads as: a number of figures' texts, or the number of a lane.
+// What a word reads as: a number, which is the text of a significand and an exponent about a mark, or a lane.
 #![tactic(auto)]
 
-ghost use Rattle.std.specs.Prelude.{◌≡◌, ◌↔◌, ◌≤◌, ◌<◌, ◌^◌, ℕ, Some, IfSome, length, position, decimal};
-ghost use Rattle.reading.specs.declared.Numeral.{Numeral};
+ghost use Rattle.std.specs.Prelude.{◌≡◌, ◌≤◌, ◌<◌, ◌^◌, IfSome, length, position};
 ghost use Rattle.reading.specs.Words.{is_mark, value_of, natural_of, integer_of, numeral_about, numeral_of, lane_of};
 ghost use Rattle.reading.specs.Spellings.{IsSpelled, IsLane, IsTheOne};
 

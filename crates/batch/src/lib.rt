@@ -1,0 +1,97 @@
+// Batches of text: each line is a row, whose answer is a line of the report.
+#![tactic(auto)]
+
+ghost use Rattle.std.specs.Prelude.{◌≡◌, ◌+◌, ◌≤◌, ◌++◌, List, length, take, drop};
+ghost use Rattle.lanes.specs.declared.Lane.{Lane};
+ghost use Rattle.lines.specs.Texts.{numbered_lines};
+ghost use Rattle.batch.specs.Batches.{run_rows, refused_text, run_batch, ended, reported};
+
+use console::Console;
+use ending::{End, Ended};
+use lines::Reader;
+use methods::method::Method;
+use reports::report_line;
+use row::answer;
+
+pub mod ending;
+mod place;
+mod row;
+
+// Writes a line into a report behind what is used of it.
+fn write(report: &mut [u8], used: usize, line: &[u8])
+    requires { used + length line.now ≤ length report.old }
+    ensures { report.new ≡ take used report.old ++ (line.now ++ drop (used + length line.now) report.old) }
+{
+    report[used..used + line.len()].copy_from_slice(line);
+}
+
+// Runs the rows of a text.
+fn run_rows<M: Method>(console: &mut Console<M>, text: &[u8], report: &mut [u8]) -> Ended
+    requires { length text.now ≤ 65536 }
+    ensures ended { result ≡ ended (run_rows M.Arith.RADIX M.Arith.PRECISION M.Arith.MARK
+        (M.Method.answer console.old.method) 0 (length report.old) console.old.lanes
+        (numbered_lines text.now)) }
+    ensures report { report.new ≡ reported (run_rows M.Arith.RADIX M.Arith.PRECISION M.Arith.MARK
+        (M.Method.answer console.old.method) 0 (length report.old) console.old.lanes
+        (numbered_lines text.now)) report.old }
+    ensures lanes { console.new.lanes ≡ (run_rows M.Arith.RADIX M.Arith.PRECISION M.Arith.MARK
+        (M.Method.answer console.old.method) 0 (length report.old) console.old.lanes
+        (numbered_lines text.now)).lanes }
+    ensures method { console.new.method ≡ console.old.method }
+{
+    let mut rows = 0;
+    let mut used = 0;
+    for line in Reader::new(text) {
+        if report.len() - used < 64 {
+            return Ended {
+                rows,
+                bytes: used,
+                end: End::ReportFull,
+            };
+        }
+        let outcome = answer(console, line.bytes);
+        let told = report_line::<M::Arith>(line.number, outcome);
+        let told = told.as_slice();
+        write(report, used, told);
+        used += told.len();
+        rows = line.number;
+    }
+    Ended {
+        rows,
+        bytes: used,
+        end: End::Done,
+    }
+}
+
+// The end of a batch whose text is too long: the report is full before that is told, where a row would find no room.
+fn refused(text: &[u8], free: usize) -> End
+    ensures { (ls : List Lane) → result ≡ (refused_text free ls (numbered_lines text.now)).end }
+{
+    if Reader::new(text).next().is_some() && free < 64 {
+        End::ReportFull
+    } else {
+        End::TextTooLong
+    }
+}
+
+// Runs a batch: every row before the first empty line, as long as 64 bytes of the report are free before it. The bytes
+// behind the last line of the report stay as they were. Of a text of more than 65,536 bytes no row is run.
+#[tactic(auto, unfolding(crate::specs::Batches::run_batch))]
+pub fn run<M: Method>(console: &mut Console<M>, text: &[u8], report: &mut [u8]) -> Ended
+    ensures ended { result ≡ ended (run_batch M.Arith.RADIX M.Arith.PRECISION M.Arith.MARK
+        (M.Method.answer console.old.method) (length report.old) console.old.lanes text.now) }
+    ensures report { report.new ≡ reported (run_batch M.Arith.RADIX M.Arith.PRECISION M.Arith.MARK
+        (M.Method.answer console.old.method) (length report.old) console.old.lanes text.now) report.old }
+    ensures lanes { console.new.lanes ≡ (run_batch M.Arith.RADIX M.Arith.PRECISION M.Arith.MARK
+        (M.Method.answer console.old.method) (length report.old) console.old.lanes text.now).lanes }
+    ensures method { console.new.method ≡ console.old.method }
+{
+    if text.len() > 65_536 {
+        return Ended {
+            rows: 0,
+            bytes: 0,
+            end: refused(text, report.len()),
+        };
+    }
+    run_rows(console, text, report)
+}
