@@ -86,14 +86,19 @@ def figure_text(pair):
     return f"figure!({s}, {q})"
 
 
+def source(field):
+    """A number or a figure, as source."""
+    return figure_text(field) if isinstance(field, tuple) else str(field)
+
+
 def rows_of(title, row, rows):
-    """The lines of a table: each row has words on it, and then its fields, each of which is a figure."""
+    """The lines of a table: each row has words on it, and then its fields, each of which is a figure or a number."""
     lines = ["", f"pub const {title}: [{row}; {len(rows)}] = ["]
     for words, fields in rows:
         lines.append(f"    // {words}")
         lines.append(f"    {row} {{")
-        for field, pair in fields.items():
-            lines.append(f"        {field}: {figure_text(pair)},")
+        for name, field in fields.items():
+            lines.append(f"        {name}: {source(field)},")
         lines.append("    },")
     return lines + ["];"]
 
