@@ -46,8 +46,8 @@ impl Row {
             ..
         } = self;
         match Verb::of(code).ok_or(Refusal::UnknownVerb)? {
-            Verb::Sum => Ok((console.sum(a, b, c, d)?, ZERO)),
-            Verb::Determinant => Ok((console.determinant(a, b, c, d)?, ZERO)),
+            Verb::Sum => console.sum(a, b, c, d).map(|figure| (figure, ZERO)),
+            Verb::Determinant => console.determinant(a, b, c, d).map(|figure| (figure, ZERO)),
             Verb::Product => console.complex_product(a, b, c, d),
         }
     }
