@@ -13,8 +13,8 @@ use Rattle.runs.specs.Answers.{answer_to}
 use Rattle.rows.specs.declared.Row.{Row}
 use Rattle.rows.specs.Rows.{call_of}
 
--- an answer as the two figures of a row: with one figure, zero is the second. The calls of rows answer no counts and no
--- readings, which have no figures here.
+-- an answer as the two figures of a row: with one figure, zero is the second. The calls of rows answer no counts and
+-- no readings, which have no figures here.
 abbrev pub both : Answer → Figure × Figure
 both (Value f) = (f, zero_figure)
 both (Parts f g) = (f, g)
@@ -26,9 +26,11 @@ abbrev pub answers_by : ℕ → ℕ → Function → List Lane → Option Call �
 answers_by β p m ls (Some call) = after (answer_to β p m ls call) (λ answer. Ok (both answer))
 answers_by β p m ls None = Err (number UnknownVerb)
 
+-- what it answers to the call of a row
 abbrev pub answers_of : ℕ → ℕ → Function → List Lane → Row → Result (Figure × Figure) ℕ
 answers_of β p m ls r = answers_by β p m ls (call_of r)
 
+-- the row with this outcome and these answers, whatever it had before
 abbrev pub with_answers : Row → ℕ → Figure → Figure → Row
 with_answers r n f g = record {
   code = r.code;

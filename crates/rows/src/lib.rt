@@ -15,8 +15,8 @@ use verbs::Verb;
 
 mod verbs;
 
-// A code with its four operands, and what became of them: the outcome 0 and two answers, or the number of a refusal and
-// two zeros. Sums and determinants have zero as the second answer.
+// A code with its four operands, and what became of them: the outcome 0 and two answers, or the number of a refusal
+// and two zeros. Sums and determinants have zero as the second answer.
 #[derive(Clone, Copy, Debug, PartialEq, Eq)]
 pub struct Row {
     pub code: u8,
