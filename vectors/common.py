@@ -104,16 +104,19 @@ def rows_of(title, row, rows):
 
 
 def main(makers):
-    """Writes the file of each name with the text that its maker gives, or compares that text with the file."""
+    """Writes the file of each name with the text or the bytes that its maker gives, or compares them with the file."""
     if sys.argv[1:] not in ([], ["--check"]):
         sys.exit(f"usage: vectors/{pathlib.Path(sys.argv[0]).name} [--check]")
     stale = []
     for name, maker in makers.items():
         path = CRATES / name
-        text = maker()
+        made = maker()
+        if isinstance(made, str):
+            made = made.encode()
         if not sys.argv[1:]:
-            path.write_text(text)
-        elif not path.exists() or path.read_text() != text:
+            path.parent.mkdir(parents=True, exist_ok=True)
+            path.write_bytes(made)
+        elif not path.exists() or path.read_bytes() != made:
             stale.append(name)
     if stale:
         sys.exit("not as a fresh run writes them: " + ", ".join(stale))

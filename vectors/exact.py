@@ -2,6 +2,7 @@
 whose answers are compared with these."""
 import sys
 from fractions import Fraction
+from math import log2
 
 from common import Kind
 
@@ -23,7 +24,9 @@ def opposite(figure):
 
 def last_place(kind, x):
     """The exponent of the last place of x, which is not zero: in units of radix^q, least <= |x| < top."""
-    q = 0
+    # a first guess, which saves steps; the two loops settle q from any
+    bits = x.numerator.bit_length() - x.denominator.bit_length()
+    q = int(bits / log2(kind.radix)) - kind.precision
     while abs(x) >= kind.top * Fraction(kind.radix) ** q:
         q += 1
     while abs(x) < kind.least * Fraction(kind.radix) ** q:
