@@ -1,0 +1,40 @@
+// What a program writes for the text that it reads.
+#![tactic(auto)]
+
+ghost use Rattle.std.specs.Prelude.{◌≡◌, IfOk};
+ghost use Rattle.outputs.specs.Outputs.{closing, fresh_batch, output_of};
+
+use batch::ending::End;
+use batch::run;
+use console::Console;
+use methods::method::Method;
+use std::alloc::{AllocError, Global};
+
+// The line that closes the output of a batch that did not run to its end.
+fn closing(end: End) -> &'static [u8]
+    ensures { result.now ≡ closing end }
+{
+    match end {
+        End::Done => b"",
+        End::ReportFull => b"0 no 51 0\n",
+        End::TextTooLong => b"0 no 61 0\n",
+    }
+}
+
+// The whole output for a text: the report of its batch on a new console that holds the method, and the line that closes
+// it. Only want of memory is an error.
+pub fn output<M: Method + Drop>(
+    alloc: Global,
+    method: M,
+    text: &[u8],
+) -> Result<Vec<u8>, AllocError>
+    ensures { IfOk result (λ output. output.items ≡ output_of (fresh_batch M.Arith.RADIX M.Arith.PRECISION
+        M.Arith.MARK (M.Method.answer method) text.now)) }
+{
+    let mut console = Console::new(method);
+    let mut output = vec![in alloc; 0; 65_536]?;
+    let ended = run(&mut console, text, &mut output);
+    output.truncate(ended.bytes);
+    output.extend_from_slice(closing(ended.end))?;
+    Ok(output)
+}
