@@ -1,3 +1,4 @@
 pub mod Numbers
 pub mod Running
 pub mod Telling
+pub mod Batches

@@ -1,5 +1,5 @@
 -- The numbers of lines stay below 100,000 in a text of at most 65,536 bytes, since no line is empty.
-use Rattle.std.proofs.Common.{◌≡◌, ℕ, suc, ◌+◌, ◌<◌, ◌≤◌, ◌==◌, Bool, true, false, cond, List, [], ◌∷◌, length, arith, rules, le_trans}
+use Rattle.std.proofs.Common.{ℕ, suc, ◌+◌, ◌<◌, ◌≤◌, ◌==◌, Bool, true, false, cond, List, [], ◌∷◌, length, arith, rules, le_trans}
 use Rattle.std.specs.List.{AllByRecursion, enumerate_from, onto_first}
 use Rattle.lines.specs.Texts.{parts, until_empty, lines_of, numbered_lines}
 

@@ -4,15 +4,14 @@ use Rattle.std.proofs.Common.{Bool, true, false, cond, Ok, Err, Result, refl, sy
 use Rattle.std.proofs.Common.{length-append}
 use Rattle.std.proofs.lemmas.Bool.Decides.{nat_tests}
 use Rattle.std.specs.List.{enumerate_from}
-use Rattle.kinds.specs.Kinds.{IsKind, IsMark}
-use Rattle.bounds.specs.Methods.{Function, IsReliable}
+use Rattle.kinds.specs.Kinds.{IsMark}
+use Rattle.bounds.specs.Methods.{Function}
 use Rattle.lanes.specs.declared.Lane.{Lane}
 use Rattle.histories.specs.declared.Call.{Call}
 use Rattle.lines.specs.Texts.{lines_of}
 use Rattle.lines.proofs.Laws.{lines_law}
 use Rattle.requests.specs.Faults.{Stop}
 use Rattle.requests.specs.Requests.{request_of}
-use Rattle.runs.specs.Answers.{lanes_after}
 use Rattle.runs.specs.Entries.{lanes_after_all}
 use Rattle.reports.specs.Reports.{report_line}
 use Rattle.reports.specs.Tells.{LineTells}

@@ -1,5 +1,5 @@
 -- What a batch leaves: its rows, its report, its lanes, and how it ends.
-use Rattle.std.specs.Prelude.{◌≡◌, ℕ, ◌-◌, ◌<◌, ◌++◌, nat_lt, if◌then◌else◌, Bool, true, false, List, [], ◌∷◌, length, drop}
+use Rattle.std.specs.Prelude.{ℕ, ◌-◌, ◌++◌, nat_lt, if◌then◌else◌, List, [], ◌∷◌, length, drop}
 use Rattle.bounds.specs.Methods.{Function}
 use Rattle.lanes.specs.declared.Lane.{Lane}
 use Rattle.lines.specs.Texts.{numbered_lines}

@@ -5,6 +5,7 @@ ghost use Rattle.std.specs.Prelude.{◌≡◌, ◌+◌, ◌≤◌, ◌++◌, Lis
 ghost use Rattle.lanes.specs.declared.Lane.{Lane};
 ghost use Rattle.lines.specs.Texts.{numbered_lines};
 ghost use Rattle.batch.specs.Batches.{run_rows, refused_text, run_batch, ended, reported};
+ghost use Rattle.batch.specs.Telling.{BatchTells};
 
 use console::Console;
 use ending::{End, Ended};
@@ -74,6 +75,15 @@ fn refused(text: &[u8], free: usize) -> End
     }
 }
 
+// What is proved of a batch.
+fn batch_law<M: Method>(console: &Console<M>, text: &[u8], size: usize)
+    ensures { BatchTells M.Arith.RADIX M.Arith.PRECISION M.Arith.MARK
+        (M.Method.num console.now.method) (M.Method.den console.now.method)
+        (M.Method.answer console.now.method) size console.now.lanes text.now
+        (run_batch M.Arith.RADIX M.Arith.PRECISION M.Arith.MARK
+        (M.Method.answer console.now.method) size console.now.lanes text.now) }
+{}
+
 // Runs a batch: every row before the first empty line, as long as 64 bytes of the report are free before it. The bytes
 // behind the last line of the report stay as they were. Of a text of more than 65,536 bytes no row is run.
 #[tactic(auto, unfolding(crate::specs::Batches::run_batch))]
@@ -85,7 +95,13 @@ pub fn run<M: Method>(console: &mut Console<M>, text: &[u8], report: &mut [u8]) 
     ensures lanes { console.new.lanes ≡ (run_batch M.Arith.RADIX M.Arith.PRECISION M.Arith.MARK
         (M.Method.answer console.old.method) (length report.old) console.old.lanes text.now).lanes }
     ensures method { console.new.method ≡ console.old.method }
+    ensures tells { BatchTells M.Arith.RADIX M.Arith.PRECISION M.Arith.MARK
+        (M.Method.num console.old.method) (M.Method.den console.old.method)
+        (M.Method.answer console.old.method) (length report.old) console.old.lanes text.now
+        (run_batch M.Arith.RADIX M.Arith.PRECISION M.Arith.MARK
+        (M.Method.answer console.old.method) (length report.old) console.old.lanes text.now) }
 {
+    batch_law(console, text, report.len());
     if text.len() > 65_536 {
         return Ended {
             rows: 0,

@@ -1,5 +1,5 @@
 -- No line of a report is that of two rows.
-use Rattle.std.proofs.Common.{◌≡◌, ◌≢◌, ◌↔◌, ℕ, ◌<◌, List, [], ◌∷◌, ◌++◌, length, get_or, inl, inr}
+use Rattle.std.proofs.Common.{◌≡◌, ◌≢◌, ◌↔◌, ℕ, ◌<◌, List, [], ◌∷◌, length, get_or, inl, inr}
 use Rattle.std.proofs.Common.{decimal, Ok, Err, Result, IsErr, refl, sym, ap, ◌∙◌, subst, arith, length-append}
 use Rattle.std.proofs.lemmas.Fmt.{decimal_injective}
 use Rattle.std.proofs.lemmas.List.{get_or_at, append_cancel_right}
@@ -12,7 +12,7 @@ use Rattle.requests.specs.Faults.{Stop}
 use Rattle.console.specs.declared.Reading.{Reading}
 use Rattle.runs.specs.declared.Answer.{Answer}
 use Rattle.runs.specs.declared.Answer.TheVariants.{Value, Parts, Count, Shown}
-use Rattle.reports.specs.Reports.{figure_text, outcome_text, row_text, report_line}
+use Rattle.reports.specs.Reports.{figure_text, row_text}
 use Rattle.reports.specs.Tells.{IsShort, SaysFigure, SaysParts, Says, RowTells, IsReadable, TellsOneRow}
 use Rattle.reports.proofs.Bytes.{decimal_digits}
 use Rattle.reports.proofs.Tells.{row_tells}
@@ -49,16 +49,11 @@ module _ (mark : ℕ) (marked : IsMark mark) where
 
   figure_no_count : (f : Figure) (n : ℕ) (words : List (List ℕ)) → Says mark (Ok (Value f)) words
       → Says mark (Ok (Count n)) words → ⊥
-  figure_no_count f n words one two =
-      let first = one.1 in
-      let text = one.2.text in
-      no_count f n (cc)
+  figure_no_count f n words one two = no_count f n (cc)
 
   same_answer : (x y : Answer) (words : List (List ℕ)) → Says mark (Ok x) words → Says mark (Ok y) words
       → IsReadable (Ok x) → IsReadable (Ok y) → x ≡ y
   same_answer (Value f) (Value g) words one two short too =
-      let first = one.1 in
-      let second = two.1 in
       let same : one.0 ≡ two.0 = cc in
       ap Value (same_figure f g _ _ same one.2 two.2 short too)
   same_answer (Value f) (Parts c d) words one two short too = cc
@@ -66,29 +61,25 @@ module _ (mark : ℕ) (marked : IsMark mark) where
   same_answer (Value f) (Shown r) words one two short too = cc
   same_answer (Parts a b) (Value g) words one two short too = cc
   same_answer (Parts a b) (Parts c d) words one two short too =
-      let same = same_parts a b c d words one two short too in
-      let real = same.0 in let imaginary = same.1 in cc
+      let same = same_parts a b c d words one two short too in cc
   same_answer (Parts a b) (Count n) words one two short too = cc
   same_answer (Parts a b) (Shown r) words one two short too = cc
   same_answer (Count n) (Value g) words one two short too = absurd (figure_no_count g n words two one)
   same_answer (Count n) (Parts c d) words one two short too = cc
   same_answer (Count n) (Count m) words one two short too =
-      let same : decimal n ≡ decimal m = cc in ap Count (decimal_injective n m short too same)
+      let same : decimal n ≡ decimal m = cc in
+      ap Count (decimal_injective n m short too same)
   same_answer (Count n) (Shown r) words one two short too = cc
   same_answer (Shown r) (Value g) words one two short too = cc
   same_answer (Shown r) (Parts c d) words one two short too = cc
   same_answer (Shown r) (Count n) words one two short too = cc
   same_answer (Shown r) (Shown t) words one two short too =
-      let first = one.1 in
-      let second = two.1 in
       let counts : decimal r.count ≡ decimal t.count = cc in
       let behind : two.0 ≡ one.0 = cc in
       let same = same_parts r.real r.imaginary t.real t.imaginary one.0 one.2
       (subst (λ ws. SaysParts mark t.real t.imaginary ws) behind two.2)
       (short.1, short.2) (too.1, too.2) in
       let count = decimal_injective r.count t.count short.0 too.0 counts in
-      let real = same.0 in
-      let imaginary = same.1 in
       let both : ◌≡◌ {A = Reading} (record { count = r.count; real = r.real; imaginary = r.imaginary })
       (record { count = t.count; real = t.real; imaginary = t.imaginary }) = cc in
       ap Shown both

@@ -17,7 +17,7 @@ use Rattle.histories.specs.declared.Call.{Call}
 use Rattle.histories.specs.declared.Call.TheVariants.{Sum, Determinant, Product, Turn, Restart, Read}
 use Rattle.histories.specs.Histories.{History, course}
 use Rattle.runs.specs.declared.Answer.{Answer}
-use Rattle.runs.specs.declared.Answer.TheVariants.{Value, Parts, Count, Shown}
+use Rattle.runs.specs.declared.Answer.TheVariants.{Value, Count, Shown}
 use Rattle.runs.specs.Answers.{mapped, parts}
 use Rattle.runs.specs.Following.{foreseen, Follows, TurnFollows, ReadingFollows}
 use Rattle.reports.specs.Tells.{IsShort, HasShort}

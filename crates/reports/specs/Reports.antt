@@ -6,7 +6,7 @@ use Rattle.requests.specs.Faults.{Stop}
 use Rattle.runs.specs.declared.Answer.{Answer}
 use Rattle.runs.specs.declared.Answer.TheVariants.{Value, Parts, Count, Shown}
 
--- two words with a space between them
+-- a word before others, with a space between them
 abbrev pub spaced : List ℕ → List ℕ → List ℕ
 spaced word words = word ++ 32 ∷ words
 

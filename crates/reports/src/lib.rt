@@ -115,6 +115,7 @@ pub fn report_line<K: Kind>(number: usize, outcome: Result<Answer, Fault>) -> Re
     ensures text { result.items ≡ report_line K.MARK number (stopped outcome) }
     ensures tells { LineTells K.MARK number (stopped outcome) result.items }
     ensures one_row { TellsOneRow K.MARK }
+    // for the numbers of a batch's rows, and counts that a console reaches
     ensures short { number < 100000 → IfOk outcome ShowsFew → array_vec_len result ≤ 64 }
 {
     lines_law::<K>();

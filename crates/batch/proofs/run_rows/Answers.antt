@@ -1,6 +1,5 @@
 -- Each turn of the loop tells one row more.
-use Rattle.std.proofs.Common.{◌≡◌, ◌≤◌, length, refl, ap, ◌∙◌, subst, arith}
-use Rattle.lines.specs.Texts.{numbered_lines}
+use Rattle.std.proofs.Common.{◌≡◌, ◌≤◌, length, refl, ap, ◌∙◌, subst}
 use Rattle.reports.specs.Reports.{report_line}
 use Rattle.batch.specs.Rows.{row_answer, row_lanes}
 use Rattle.batch.proofs.Numbers.{numbers_small}
