@@ -1,7 +1,9 @@
 // What a program writes for the text that it reads.
 #![tactic(auto)]
 
-ghost use Rattle.std.specs.Prelude.{◌≡◌, IfOk};
+ghost use Rattle.std.specs.Prelude.{◌≡◌, IfOk, OnOk};
+ghost use Rattle.lanes.specs.Lanes.{fresh_lanes};
+ghost use Rattle.batch.specs.Telling.{BatchTells};
 ghost use Rattle.outputs.specs.Outputs.{closing, fresh_batch, output_of};
 
 use batch::ending::End;
@@ -28,8 +30,12 @@ pub fn output<M: Method + Drop>(
     method: M,
     text: &[u8],
 ) -> Result<Vec<u8>, AllocError>
-    ensures { IfOk result (λ output. output.items ≡ output_of (fresh_batch M.Arith.RADIX M.Arith.PRECISION
+    ensures output { IfOk result (λ output. output.items ≡ output_of (fresh_batch M.Arith.RADIX M.Arith.PRECISION
         M.Arith.MARK (M.Method.answer method) text.now)) }
+    ensures tells { OnOk result (BatchTells M.Arith.RADIX M.Arith.PRECISION M.Arith.MARK
+        (M.Method.num method) (M.Method.den method) (M.Method.answer method) 65536
+        (fresh_lanes M.Arith.RADIX M.Arith.PRECISION) text.now
+        (fresh_batch M.Arith.RADIX M.Arith.PRECISION M.Arith.MARK (M.Method.answer method) text.now)) }
 {
     let mut console = Console::new(method);
     let mut output = vec![in alloc; 0; 65_536]?;
