@@ -1,4 +1,7 @@
 // How a batch ends.
+ghost use Rattle.std.specs.Prelude.{◌≡◌};
+
+// How a batch ends, with the number by which it is told.
 #[derive(Clone, Copy, Debug, PartialEq, Eq)]
 pub enum End {
     // every row was run
@@ -7,6 +10,16 @@ pub enum End {
     ReportFull = 51,
     // the text has more than 65,536 bytes
     TextTooLong = 61,
+}
+
+impl From<End> for u8 {
+    ghost use Rattle.batch.specs.Batches.{end_number};
+
+    ghost from_gives = { λ end n. n ≡ end_number end };
+
+    fn from(end: End) -> u8 {
+        end as u8
+    }
 }
 
 // The number of rows run, the number of bytes that their report lines take, and how the batch ended.

@@ -44,8 +44,8 @@ fn same_lanes<M: Method>(one: &Console<M>, other: &Console<M>) -> Result<(), Fai
     Ok(())
 }
 
-// Lane 0 at the largest exponent, lane 3 with two turns, lane 6 full, lane 9 at the smallest exponent, the others
-// fresh.
+// Lane 0 at the largest exponent, lane 3 with two turns, lane 6 full and at the largest exponent too, lane 9 at the
+// smallest exponent, the others fresh.
 fn wear<M: Method>(console: &mut Console<M>) -> Result<(), Fail> {
     let format = Format::of::<M::Arith>();
     let p = format.precision as i32;
@@ -57,7 +57,8 @@ fn wear<M: Method>(console: &mut Console<M>) -> Result<(), Fail> {
     row_stands(console, Turn(3, half, one), Ok(Count(1)))?;
     row_stands(console, Turn(3, one, half), Ok(Count(2)))?;
     row_stands(console, Turn(9, zero, figure!(least, -200)), Ok(Count(1)))?;
-    for n in 1..=1_000_000 {
+    row_stands(console, Turn(6, figure!(least, 200), zero), Ok(Count(1)))?;
+    for n in 2..=1_000_000 {
         row_stands(console, Turn(6, one, zero), Ok(Count(n)))?;
     }
     Ok(())
