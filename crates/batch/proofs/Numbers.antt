@@ -1,5 +1,6 @@
 -- The numbers of lines stay below 100,000 in a text of at most 65,536 bytes, since no line is empty.
-use Rattle.std.proofs.Common.{ℕ, suc, ◌+◌, ◌<◌, ◌≤◌, ◌==◌, Bool, true, false, cond, List, [], ◌∷◌, length, arith, rules, le_trans}
+use Rattle.std.proofs.Common.{ℕ, suc, ◌+◌, ◌<◌, ◌≤◌, ◌==◌, Bool, true, false, cond, List, [], ◌∷◌, length}
+use Rattle.std.proofs.Common.{arith, rules, le_trans}
 use Rattle.std.specs.List.{AllByRecursion, enumerate_from, onto_first}
 use Rattle.lines.specs.Texts.{parts, until_empty, lines_of, numbered_lines}
 
@@ -7,11 +8,13 @@ abbrev behind : List (List ℕ) → List (List ℕ)
 behind [] = []
 behind (p ∷ ps) = ps
 
-onto_behind : (b : ℕ) (ps : List (List ℕ)) → length (until_empty (behind (onto_first b ps))) ≤ length (until_empty (behind ps))
+onto_behind : (b : ℕ) (ps : List (List ℕ))
+    → length (until_empty (behind (onto_first b ps))) ≤ length (until_empty (behind ps))
 onto_behind b [] = search rules
 onto_behind b (p ∷ ps) = search rules
 
-onto_length : (b : ℕ) (ps : List (List ℕ)) → length (until_empty (onto_first b ps)) ≤ suc (length (until_empty (behind ps)))
+onto_length : (b : ℕ) (ps : List (List ℕ))
+    → length (until_empty (onto_first b ps)) ≤ suc (length (until_empty (behind ps)))
 onto_length b [] = search rules
 onto_length b (p ∷ ps) = search rules
 

@@ -1,5 +1,6 @@
 -- A batch in the middle of its rows: what was told and what is left to tell are what the whole batch tells.
-use Rattle.std.proofs.Common.{◌≡◌, ℕ, ◌+◌, ◌-◌, ◌<◌, ◌≤◌, ◌++◌, List, [], ◌∷◌, length, take, drop, true, false, nat_lt}
+use Rattle.std.proofs.Common.{◌≡◌, ℕ, ◌+◌, ◌-◌, ◌<◌, ◌≤◌, ◌++◌, List, [], ◌∷◌, length, take, drop, true, false}
+use Rattle.std.proofs.Common.{nat_lt}
 use Rattle.std.proofs.Common.{refl, sym, ap, ◌∙◌, arith, append_assoc, append-nil, length-append, length-drop}
 use Rattle.std.proofs.lemmas.Bool.Decides.{nat_tests}
 use Rattle.std.proofs.lemmas.List.{length-take-le, take-append-drop, drop-drop, take_at, drop_at}
@@ -32,7 +33,8 @@ module _ (β p mark : ℕ) (m : Function) (from : List Lane) (all : List (ℕ ×
   pub running_begun : AllByRecursion (λ (line : ℕ × List ℕ). line.0 < 100000) all
       → Running β p mark m from all old 0 0 from old all
   running_begun small = record {
-    run = ap (λ (free : ℕ). joined [] (run_rows β p mark m 0 free from all)) (omega arith) ∙ untold 0 (length old) from all;
+    run = ap (λ (free : ℕ). joined [] (run_rows β p mark m 0 free from all)) (omega arith)
+        ∙ untold 0 (length old) from all;
     behind = refl;
     within = omega arith;
     size = refl;
@@ -54,7 +56,8 @@ module _ (β p mark : ℕ) (m : Function) (from : List Lane) (all : List (ℕ ×
     whole r text same within =
         let told : r.text ≡ take used now = text ∙ append-nil (take used now) in
         rw told (
-        rw (length-take-le used now within) (sym (take-append-drop used now) ∙ ap (λ (l : List ℕ). take used now ++ l) same)
+        rw (length-take-le used now within)
+            (sym (take-append-drop used now) ∙ ap (λ (l : List ℕ). take used now ++ l) same)
         )
 
     -- at a row for which there is no room
@@ -90,7 +93,8 @@ module _ (β p mark : ℕ) (m : Function) (from : List Lane) (all : List (ℕ ×
     running_more line rest told new left running room is short left_is new_is = record {
       run =
           ap (λ (text : List ℕ). joined text (run_rows β p mark m line.0 (length new - end) left rest)) front
-          ∙ ap (λ (free : ℕ). joined (take used now ++ told) (run_rows β p mark m line.0 free left rest)) (omega (arith, size))
+          ∙ ap (λ (free : ℕ). joined (take used now ++ told) (run_rows β p mark m line.0 free left rest))
+          (omega (arith, size))
           ∙ joined_twice (take used now) told _
           ∙ ap (joined (take used now)) (sym (run_on (length now - used) line rest told left some is left_is))
           ∙ running.run;

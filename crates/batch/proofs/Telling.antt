@@ -1,6 +1,8 @@
 -- What is told of the rows of a batch, by induction over its lines.
-use Rattle.std.proofs.Common.{◌≡◌, ℕ, zero, suc, ◌+◌, ◌-◌, ◌<◌, ◌≤◌, ◌++◌, ◌⊎◌, inl, inr, List, [], ◌∷◌, length, take, nat_lt}
-use Rattle.std.proofs.Common.{Bool, true, false, cond, Ok, Err, Result, refl, sym, ap, ◌∙◌, subst, arith, append_assoc}
+use Rattle.std.proofs.Common.{◌≡◌, ℕ, zero, suc, ◌+◌, ◌-◌, ◌<◌, ◌≤◌, ◌++◌, ◌⊎◌, inl, inr, List, [], ◌∷◌, length}
+use Rattle.std.proofs.Common.{take, nat_lt}
+use Rattle.std.proofs.Common.{Bool, true, false, cond, Ok, Err, Result, refl, sym, ap, ◌∙◌, subst, arith}
+use Rattle.std.proofs.Common.{append_assoc}
 use Rattle.std.proofs.Common.{length-append}
 use Rattle.std.proofs.lemmas.Bool.Decides.{nat_tests}
 use Rattle.std.specs.List.{enumerate_from}
@@ -22,7 +24,8 @@ use Rattle.batch.specs.Batches.{Ran, joined, run_rows}
 use Rattle.batch.specs.Telling.{calls_in, RowsTold, closed_lines}
 
 -- a run of lines behind n rows: k of them were run
-pub record RowsRun (β p mark : ℕ) (m : Function) (n free : ℕ) (ls : List Lane) (lines : List (List ℕ)) (r : Ran) : Type 0 where
+pub record RowsRun (β p mark : ℕ) (m : Function) (n free : ℕ) (ls : List Lane) (lines : List (List ℕ))
+    (r : Ran) : Type 0 where
   pub k : ℕ
   pub rows : r.rows ≡ n + k
   pub within : k ≤ length lines
@@ -40,8 +43,9 @@ module _ (β p mark : ℕ) (marked : IsMark mark) (m : Function) where
   one_more ls (Ok call) calls = refl
   one_more ls (Err stop) calls = refl
 
-  none_run : (n free : ℕ) (ls : List Lane) (lines : List (List ℕ)) (r : Ran) → r ≡ record { rows = n; text = []; lanes = ls; end = ReportFull }
-      → 0 < length lines → free < 64 → RowsRun β p mark m n free ls lines r
+  none_run : (n free : ℕ) (ls : List Lane) (lines : List (List ℕ)) (r : Ran)
+      → r ≡ record { rows = n; text = []; lanes = ls; end = ReportFull } → 0 < length lines → free < 64
+      → RowsRun β p mark m n free ls lines r
   none_run n free ls lines r is some full = rw is record {
     k = 0;
     rows = omega arith;
@@ -63,7 +67,8 @@ module _ (β p mark : ℕ) (marked : IsMark mark) (m : Function) where
     rows = omega (arith, run.rows);
     within = omega (arith, run.within);
     told = subst (RowsTold β p mark m (n + 1) ls (line ∷ take run.k lines)) (sym split)
-        (row.row, subst (λ l. RowsTold β p mark m (n + 1 + 1) l (take run.k lines) (lines_of rest.text)) left_is run.told);
+        (row.row,
+        subst (λ l. RowsTold β p mark m (n + 1 + 1) l (take run.k lines) (lines_of rest.text)) left_is run.told);
     closed = ap closed_lines split ∙ (ap (λ u. u ++ closed_lines (lines_of rest.text)) (sym row.closed)
         ∙ ap (λ u. t ++ u) run.closed);
     lanes = run.lanes ∙ (ap (λ l. lanes_after_all β p m l (calls_in mark (take run.k lines))) left_is
@@ -116,5 +121,5 @@ module _ (β p mark : ℕ) (marked : IsMark mark) (m : Function) where
           (cond full (record { rows = n; text = []; lanes = ls; end = ReportFull }) (joined t rest))
       go true full run = none_run n free ls (line ∷ lines) _ refl (omega arith) (grind (arith, nat_tests))
       go false full run =
-          row_run n free ls left line lines t rest (line_tells mark (n + 1) (row_answer β p mark m ls line) t marked refl)
-          refl (grind (arith, nat_tests)) run
+          row_run n free ls left line lines t rest
+          (line_tells mark (n + 1) (row_answer β p mark m ls line) t marked refl) refl (grind (arith, nat_tests)) run

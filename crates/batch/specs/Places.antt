@@ -1,5 +1,6 @@
 -- The place of the word at fault in a line whose call was refused.
-use Rattle.std.specs.Prelude.{ℕ, ◌+◌, ◌==◌, ◌||◌, Bool, true, false, if◌then◌else◌, List, [], ◌∷◌, Some, None, Option, position}
+use Rattle.std.specs.Prelude.{ℕ, ◌+◌, ◌==◌, ◌||◌, Bool, true, false, if◌then◌else◌, List, [], ◌∷◌, Some, None}
+use Rattle.std.specs.Prelude.{Option, position}
 use Rattle.rounding.specs.declared.Figure.{Figure}
 use Rattle.rounding.specs.declared.Refusal.TheVariants.{NoLane, OperandNoFigure, OperandRange}
 use Rattle.rounding.specs.Refusals.{number}
@@ -29,8 +30,8 @@ fault_place β p (Turn i c d) = operand_place β p 3 (c ∷ d ∷ [])
 fault_place β p (Restart i) = 0
 fault_place β p (Read i) = 0
 
--- the place of the word for which a call was refused: a lane is word 2, and no word is at fault with a full lane or with
--- a phasor that would stray
+-- the place of the word for which a call was refused: a lane is word 2, and no word is at fault with a full lane or
+-- with a phasor that would stray
 abbrev pub place_of : ℕ → ℕ → Call → ℕ → ℕ
 place_of β p call refusal =
     if refusal == number NoLane then 2

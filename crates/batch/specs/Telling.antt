@@ -40,7 +40,8 @@ abbrev pub closed_lines : List (List ℕ) → List ℕ
 closed_lines lines = flat_map (λ line. line ++ 10 ∷ []) lines
 
 -- a batch of a text on the lanes ls, with so many bytes for its report
-pub record BatchTells (β p mark N D : ℕ) (m : Function) (size : ℕ) (ls : List Lane) (text : List ℕ) (r : Ran) : Type 0 where
+pub record BatchTells (β p mark N D : ℕ) (m : Function) (size : ℕ) (ls : List Lane) (text : List ℕ)
+    (r : Ran) : Type 0 where
   -- the rows run are the first lines of the text, and the report has one line for each of them and nothing else
   pub within : r.rows ≤ length (lines_of text)
   pub told : RowsTold β p mark m 1 ls (take r.rows (lines_of text)) (lines_of r.text)

@@ -23,8 +23,8 @@ fn closing(end: End) -> &'static [u8]
     }
 }
 
-// The whole output for a text: the report of its batch on a new console that holds the method, and the line that closes
-// it. Only want of memory is an error.
+// The whole output for a text: the report of its batch on a new console that holds the method, and the line that
+// closes it. Only want of memory is an error.
 pub fn output<M: Method + Drop>(
     alloc: Global,
     method: M,

@@ -1,6 +1,7 @@
 -- How long the texts of numbers are, and which bytes they have.
 use Rattle.std.proofs.Common.{◌≡◌, ◌≢◌, ℕ, zero, suc, ◌+◌, ◌-◌, ◌^◌, ◌<◌, ◌≤◌, List, ◌∷◌, length, get_or}
-use Rattle.std.proofs.Common.{◌⊎◌, inl, inr, decimal, ℤ, pos, negsuc, unsigned_abs, subst, refl, sym, arith, length-append}
+use Rattle.std.proofs.Common.{◌⊎◌, inl, inr, decimal, ℤ, pos, negsuc, unsigned_abs, subst, refl, sym, arith}
+use Rattle.std.proofs.Common.{length-append}
 use Rattle.std.proofs.lemmas.Bool.{cases_lt}
 use Rattle.std.proofs.lemmas.Fmt.{decimal_nonempty, length-decimal-le}
 use Rattle.std.proofs.lemmas.List.{get_or_default, get_or_append_left, get_or-append_right}

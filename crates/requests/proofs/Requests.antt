@@ -5,7 +5,8 @@ use Rattle.requests.specs.declared.verb.Verb.TheVariants.{Sum, Determinant, Prod
 use Rattle.requests.specs.Requests.{call_of, by_verb, request_in}
 use Rattle.requests.specs.Verbs.{verb_of}
 
-five_behind : (mark : ℕ) (verb : Verb) (words : List (List ℕ)) → call_of mark verb (take 5 words) ≡ call_of mark verb words
+five_behind : (mark : ℕ) (verb : Verb) (words : List (List ℕ))
+    → call_of mark verb (take 5 words) ≡ call_of mark verb words
 five_behind mark verb [] = refl
 five_behind mark verb (a ∷ []) = refl
 five_behind mark verb (a ∷ b ∷ []) = refl
@@ -18,7 +19,8 @@ five_behind mark Turn (a ∷ b ∷ c ∷ d ∷ e ∷ words) = refl
 five_behind mark Restart (a ∷ b ∷ c ∷ d ∷ e ∷ words) = refl
 five_behind mark Read (a ∷ b ∷ c ∷ d ∷ e ∷ words) = refl
 
-behind : (mark : ℕ) (verb : Option Verb) (words : List (List ℕ)) → by_verb mark verb (take 5 words) ≡ by_verb mark verb words
+behind : (mark : ℕ) (verb : Option Verb) (words : List (List ℕ))
+    → by_verb mark verb (take 5 words) ≡ by_verb mark verb words
 behind mark None words = refl
 behind mark (Some verb) words = five_behind mark verb words
 

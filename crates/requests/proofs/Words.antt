@@ -1,6 +1,7 @@
 -- What a word looks like takes nothing from it: a number begins with a digit or a minus and has more than two bytes, a
 -- lane begins with a digit and has at most two, and a verb begins with a small letter.
-use Rattle.std.proofs.Common.{◌≡◌, ℕ, ◌<◌, ◌≤◌, ◌^◌, Bool, true, false, not, ◌&&◌, ◌==◌, nat_lt, cond, ◌⊎◌, inl, inr, List, length, get_or}
+use Rattle.std.proofs.Common.{◌≡◌, ℕ, ◌<◌, ◌≤◌, ◌^◌, Bool, true, false, not, ◌&&◌, ◌==◌, nat_lt, cond, ◌⊎◌, inl}
+use Rattle.std.proofs.Common.{inr, List, length, get_or}
 use Rattle.std.proofs.Common.{Some, None, Err, Option, sym, refl, ap, ◌∙◌, arith, length-append}
 use Rattle.std.proofs.lemmas.Bool.Decides.{nat_tests}
 use Rattle.std.proofs.Common.{ℤ, pos, negsuc, unsigned_abs, subst, ◌∷◌, ◌≢◌}
@@ -66,7 +67,8 @@ lane_begins text n read =
     let plain = (natural_plain 2 text n read).0 in
     let text_is = decimal_natural 2 text n (omega arith) read in
     let fits = small 2 n (omega arith) text_is.1 in
-    (subst (λ t. IsInRange 48 57 (begin t)) (sym text_is.0) (decimal_byte n 0 fits (decimal_nonempty n fits)), plain.few)
+    let first = decimal_byte n 0 fits (decimal_nonempty n fits) in
+    (subst (λ t. IsInRange 48 57 (begin t)) (sym text_is.0) first, plain.few)
 
 never : {X : Type 0} (o : Option X) → ((x : X) → o ≡ Some x → ⊥) → o ≡ None
 never None not = refl
@@ -121,8 +123,8 @@ reads_as text = (go (is_ascii_lowercase b) (b == 45) (is_ascii_digit b) (nat_lt 
       verb = no_verb t e;
     }
 
-    go : (letter minus digit long : Bool) → is_ascii_lowercase b ≡ letter → (b == 45) ≡ minus → is_ascii_digit b ≡ digit
-        → nat_lt 2 (length t) ≡ long → ReadsAs (looks letter minus digit long) t
+    go : (letter minus digit long : Bool) → is_ascii_lowercase b ≡ letter → (b == 45) ≡ minus
+        → is_ascii_digit b ≡ digit → nat_lt 2 (length t) ≡ long → ReadsAs (looks letter minus digit long) t
     go true minus digit long e f g h = record {
       figure = no_figure (no_numeral t (inl (grind (arith, nat_tests), grind (arith, nat_tests))));
       lane = no_lane_in (no_lane t (inl (grind (arith, nat_tests))));

@@ -1,5 +1,5 @@
--- The call that a line asks for, or what stops it. The line is tested as a whole, then its verb, then the number of its
--- words, then word after word from the left.
+-- The call that a line asks for, or what stops it. The line is tested as a whole, then its verb, then the number of
+-- its words, then word after word from the left.
 use Rattle.std.specs.Prelude.{ℕ, nat_lt, if◌then◌else◌, List, [], ◌∷◌, length, Some, None, Ok, Err, Option, Result}
 use Rattle.lines.specs.Texts.{words_of}
 use Rattle.rounding.specs.declared.Figure.{Figure}

@@ -1,5 +1,6 @@
 -- What a word of a line reads as: by its text alone, and by what it looks like.
-use Rattle.std.specs.Prelude.{◌≡◌, ℕ, not, ◌&&◌, ◌==◌, nat_lt, if◌then◌else◌, length, slice_index_or, List, Some, None, Ok, Err, Option, Result}
+use Rattle.std.specs.Prelude.{◌≡◌, ℕ, not, ◌&&◌, ◌==◌, nat_lt, if◌then◌else◌, length, slice_index_or, List}
+use Rattle.std.specs.Prelude.{Some, None, Ok, Err, Option, Result}
 use Rattle.std.specs.Borrow.{Bor}
 use Rattle.std.specs.Char.{is_ascii_digit, is_ascii_lowercase}
 use Rattle.rounding.specs.declared.Figure.{Figure}

@@ -2,8 +2,7 @@
 ghost use Rattle.std.specs.Prelude.{◌≤◌};
 
 // The first `len` of `bytes`. The longest text of a figure takes 23 of them: two signs, two numbers of ten digits and
-// a mark. It is copied as it lies, with no heap, which an `ArrayVec` is not; and a mark may be any byte, so that it is
-// no `ArrayString`.
+// a mark. It is copied as it lies, with no heap, which an `ArrayVec` is not.
 #[derive(Clone, Copy)]
 pub struct Spelling {
     bytes: [u8; 23],
