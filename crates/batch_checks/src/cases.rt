@@ -1,6 +1,7 @@
-// Texts and what a batch on a new console answers to them, and lines with the words that answer them,
-// written by vectors/batch_cases: do not edit by hand.
+// Texts and what a batch on a new console answers to them, and lines with the report of the batch that has this
+// line alone, written by vectors/batch_cases: do not edit by hand.
 use crate::rows::{Case, Line};
+use batch::ending::End::{Done, ReportFull, TextTooLong};
 
 pub const TEXTS: [Case; 68] = [
     // an empty text
@@ -11,7 +12,7 @@ pub const TEXTS: [Case; 68] = [
         size: 65536,
         rows: 0,
         used: 0,
-        end: 0,
+        end: Done,
         report: b"",
     },
     // byte 10 alone: one line, which is empty
@@ -22,7 +23,7 @@ pub const TEXTS: [Case; 68] = [
         size: 65536,
         rows: 0,
         used: 0,
-        end: 0,
+        end: Done,
         report: b"",
     },
     // two empty lines
@@ -33,7 +34,7 @@ pub const TEXTS: [Case; 68] = [
         size: 65536,
         rows: 0,
         used: 0,
-        end: 0,
+        end: Done,
         report: b"",
     },
     // one line with its byte 10
@@ -44,7 +45,7 @@ pub const TEXTS: [Case; 68] = [
         size: 65536,
         rows: 1,
         used: 20,
-        end: 0,
+        end: Done,
         report: b"1 0 8388608p-23 0p0\n",
     },
     // one line without its byte 10
@@ -55,7 +56,7 @@ pub const TEXTS: [Case; 68] = [
         size: 65536,
         rows: 1,
         used: 20,
-        end: 0,
+        end: Done,
         report: b"1 0 8388608p-23 0p0\n",
     },
     // two lines, the last without its byte 10
@@ -66,7 +67,7 @@ pub const TEXTS: [Case; 68] = [
         size: 65536,
         rows: 2,
         used: 30,
-        end: 0,
+        end: Done,
         report: b"1 no 43 1\n2 0 8388608p-23 0p0\n",
     },
     // refused rows are counted
@@ -77,7 +78,7 @@ pub const TEXTS: [Case; 68] = [
         size: 65536,
         rows: 4,
         used: 50,
-        end: 0,
+        end: Done,
         report: b"1 no 43 1\n2 no 31 2\n3 no 42 0\n4 0 8388608p-23 0p0\n",
     },
     // an empty line ends the batch
@@ -88,7 +89,7 @@ pub const TEXTS: [Case; 68] = [
         size: 65536,
         rows: 1,
         used: 20,
-        end: 0,
+        end: Done,
         report: b"1 0 8388608p-23 0p0\n",
     },
     // an empty line first
@@ -99,7 +100,7 @@ pub const TEXTS: [Case; 68] = [
         size: 65536,
         rows: 0,
         used: 0,
-        end: 0,
+        end: Done,
         report: b"",
     },
     // an empty line last
@@ -110,7 +111,7 @@ pub const TEXTS: [Case; 68] = [
         size: 65536,
         rows: 1,
         used: 10,
-        end: 0,
+        end: Done,
         report: b"1 no 43 1\n",
     },
     // any bytes behind an empty line
@@ -121,7 +122,7 @@ pub const TEXTS: [Case; 68] = [
         size: 65536,
         rows: 1,
         used: 10,
-        end: 0,
+        end: Done,
         report: b"1 no 43 1\n",
     },
     // spaces alone are no empty line
@@ -132,7 +133,7 @@ pub const TEXTS: [Case; 68] = [
         size: 65536,
         rows: 3,
         used: 30,
-        end: 0,
+        end: Done,
         report: b"1 no 43 1\n2 no 43 1\n3 no 43 1\n",
     },
     // a byte 13 belongs to its line
@@ -143,7 +144,7 @@ pub const TEXTS: [Case; 68] = [
         size: 65536,
         rows: 3,
         used: 40,
-        end: 0,
+        end: Done,
         report: b"1 no 44 2\n2 no 43 1\n3 0 8388608p-23 0p0\n",
     },
     // a byte 13 ends no line
@@ -154,7 +155,7 @@ pub const TEXTS: [Case; 68] = [
         size: 65536,
         rows: 1,
         used: 10,
-        end: 0,
+        end: Done,
         report: b"1 no 42 0\n",
     },
     // bytes 0, 9, 11 and 12 alone are no empty line
@@ -165,7 +166,7 @@ pub const TEXTS: [Case; 68] = [
         size: 65536,
         rows: 4,
         used: 40,
-        end: 0,
+        end: Done,
         report: b"1 no 43 1\n2 no 43 1\n3 no 43 1\n4 no 43 1\n",
     },
     // bytes 0, 9, 11 and 12 end no line
@@ -176,7 +177,7 @@ pub const TEXTS: [Case; 68] = [
         size: 65536,
         rows: 1,
         used: 10,
-        end: 0,
+        end: Done,
         report: b"1 no 43 1\n",
     },
     // bytes above 127
@@ -187,7 +188,7 @@ pub const TEXTS: [Case; 68] = [
         size: 65536,
         rows: 3,
         used: 30,
-        end: 0,
+        end: Done,
         report: b"1 no 43 1\n2 no 44 2\n3 no 43 1\n",
     },
     // a byte 138 is no byte 10
@@ -198,7 +199,7 @@ pub const TEXTS: [Case; 68] = [
         size: 65536,
         rows: 1,
         used: 10,
-        end: 0,
+        end: Done,
         report: b"1 no 43 1\n",
     },
     // a byte 160 is no space
@@ -209,7 +210,7 @@ pub const TEXTS: [Case; 68] = [
         size: 65536,
         rows: 1,
         used: 10,
-        end: 0,
+        end: Done,
         report: b"1 no 43 1\n",
     },
     // 80 bytes, byte 10 apart
@@ -220,7 +221,7 @@ pub const TEXTS: [Case; 68] = [
         size: 65536,
         rows: 2,
         used: 30,
-        end: 0,
+        end: Done,
         report: b"1 no 43 1\n2 0 8388608p-23 0p0\n",
     },
     // 81 bytes, byte 10 apart
@@ -231,7 +232,7 @@ pub const TEXTS: [Case; 68] = [
         size: 65536,
         rows: 2,
         used: 30,
-        end: 0,
+        end: Done,
         report: b"1 no 41 0\n2 0 8388608p-23 0p0\n",
     },
     // 80 bytes without a byte 10
@@ -242,7 +243,7 @@ pub const TEXTS: [Case; 68] = [
         size: 65536,
         rows: 1,
         used: 10,
-        end: 0,
+        end: Done,
         report: b"1 no 43 1\n",
     },
     // 81 bytes without a byte 10
@@ -253,7 +254,7 @@ pub const TEXTS: [Case; 68] = [
         size: 65536,
         rows: 1,
         used: 10,
-        end: 0,
+        end: Done,
         report: b"1 no 41 0\n",
     },
     // a line of 60,000 bytes, and one behind it
@@ -264,7 +265,7 @@ pub const TEXTS: [Case; 68] = [
         size: 65536,
         rows: 2,
         used: 30,
-        end: 0,
+        end: Done,
         report: b"1 no 41 0\n2 0 8388608p-23 0p0\n",
     },
     // a turn and a restart
@@ -275,7 +276,7 @@ pub const TEXTS: [Case; 68] = [
         size: 65536,
         rows: 4,
         used: 48,
-        end: 0,
+        end: Done,
         report: b"1 1\n2 1 0p0 8388608p-23\n3 0\n4 0 8388608p-23 0p0\n",
     },
     // lanes turn apart
@@ -286,7 +287,7 @@ pub const TEXTS: [Case; 68] = [
         size: 65536,
         rows: 4,
         used: 48,
-        end: 0,
+        end: Done,
         report: b"1 1\n2 0 8388608p-23 0p0\n3 0\n4 1 0p0 8388608p-23\n",
     },
     // two turns
@@ -297,7 +298,7 @@ pub const TEXTS: [Case; 68] = [
         size: 65536,
         rows: 3,
         used: 29,
-        end: 0,
+        end: Done,
         report: b"1 1\n2 2\n3 2 0p0 10485760p-21\n",
     },
     // a refused turn leaves its lane
@@ -308,7 +309,7 @@ pub const TEXTS: [Case; 68] = [
         size: 65536,
         rows: 3,
         used: 34,
-        end: 0,
+        end: Done,
         report: b"1 1\n2 no 33 0\n3 1 8388608p200 0p0\n",
     },
     // a turn by no figure leaves its lane
@@ -319,7 +320,7 @@ pub const TEXTS: [Case; 68] = [
         size: 65536,
         rows: 4,
         used: 44,
-        end: 0,
+        end: Done,
         report: b"1 1\n2 no 21 3\n3 no 22 4\n4 1 0p0 8388608p-23\n",
     },
     // sums and products change no lane
@@ -330,7 +331,7 @@ pub const TEXTS: [Case; 68] = [
         size: 65536,
         rows: 4,
         used: 32,
-        end: 0,
+        end: Done,
         report: b"1 1\n2 0p0\n3 0p0 0p0\n4 1 0p0 0p0\n",
     },
     // a lane of zero is turned on
@@ -341,7 +342,7 @@ pub const TEXTS: [Case; 68] = [
         size: 65536,
         rows: 3,
         used: 20,
-        end: 0,
+        end: Done,
         report: b"1 1\n2 2\n3 2 0p0 0p0\n",
     },
     // no report bytes, and no row
@@ -352,7 +353,7 @@ pub const TEXTS: [Case; 68] = [
         size: 0,
         rows: 0,
         used: 0,
-        end: 0,
+        end: Done,
         report: b"",
     },
     // no report bytes, and an empty line first
@@ -363,7 +364,7 @@ pub const TEXTS: [Case; 68] = [
         size: 0,
         rows: 0,
         used: 0,
-        end: 0,
+        end: Done,
         report: b"",
     },
     // no report bytes
@@ -374,7 +375,7 @@ pub const TEXTS: [Case; 68] = [
         size: 0,
         rows: 0,
         used: 0,
-        end: 51,
+        end: ReportFull,
         report: b"",
     },
     // 63 report bytes
@@ -385,7 +386,7 @@ pub const TEXTS: [Case; 68] = [
         size: 63,
         rows: 0,
         used: 0,
-        end: 51,
+        end: ReportFull,
         report: b"",
     },
     // 63 report bytes, and a line that is refused
@@ -396,7 +397,7 @@ pub const TEXTS: [Case; 68] = [
         size: 63,
         rows: 0,
         used: 0,
-        end: 51,
+        end: ReportFull,
         report: b"",
     },
     // 63 report bytes, and a line that is too long
@@ -407,7 +408,7 @@ pub const TEXTS: [Case; 68] = [
         size: 63,
         rows: 0,
         used: 0,
-        end: 51,
+        end: ReportFull,
         report: b"",
     },
     // 64 report bytes
@@ -418,7 +419,7 @@ pub const TEXTS: [Case; 68] = [
         size: 64,
         rows: 1,
         used: 4,
-        end: 0,
+        end: Done,
         report: b"1 0\n",
     },
     // 64 report bytes, and a second row
@@ -429,7 +430,7 @@ pub const TEXTS: [Case; 68] = [
         size: 64,
         rows: 1,
         used: 4,
-        end: 51,
+        end: ReportFull,
         report: b"1 0\n",
     },
     // 60 are free, and no row follows
@@ -440,7 +441,7 @@ pub const TEXTS: [Case; 68] = [
         size: 64,
         rows: 1,
         used: 4,
-        end: 0,
+        end: Done,
         report: b"1 0\n",
     },
     // 63 are free before the second row
@@ -451,7 +452,7 @@ pub const TEXTS: [Case; 68] = [
         size: 67,
         rows: 1,
         used: 4,
-        end: 51,
+        end: ReportFull,
         report: b"1 0\n",
     },
     // 64 are free before the second row
@@ -462,7 +463,7 @@ pub const TEXTS: [Case; 68] = [
         size: 68,
         rows: 2,
         used: 8,
-        end: 0,
+        end: Done,
         report: b"1 0\n2 0\n",
     },
     // 100 report bytes
@@ -473,7 +474,7 @@ pub const TEXTS: [Case; 68] = [
         size: 100,
         rows: 2,
         used: 40,
-        end: 51,
+        end: ReportFull,
         report: b"1 0 8388608p-23 0p0\n2 0 8388608p-23 0p0\n",
     },
     // 103 report bytes
@@ -484,7 +485,7 @@ pub const TEXTS: [Case; 68] = [
         size: 103,
         rows: 2,
         used: 40,
-        end: 51,
+        end: ReportFull,
         report: b"1 0 8388608p-23 0p0\n2 0 8388608p-23 0p0\n",
     },
     // 104 report bytes
@@ -495,7 +496,7 @@ pub const TEXTS: [Case; 68] = [
         size: 104,
         rows: 3,
         used: 60,
-        end: 0,
+        end: Done,
         report: b"1 0 8388608p-23 0p0\n2 0 8388608p-23 0p0\n3 0 8388608p-23 0p0\n",
     },
     // 127 report bytes
@@ -506,7 +507,7 @@ pub const TEXTS: [Case; 68] = [
         size: 127,
         rows: 15,
         used: 66,
-        end: 51,
+        end: ReportFull,
         report: b"1 0\n2 0\n3 0\n4 0\n5 0\n6 0\n7 0\n8 0\n9 0\n10 0\n11 0\n12 0\n13 0\n14 0\n15 0\n",
     },
     // 128 report bytes
@@ -517,7 +518,7 @@ pub const TEXTS: [Case; 68] = [
         size: 128,
         rows: 15,
         used: 66,
-        end: 51,
+        end: ReportFull,
         report: b"1 0\n2 0\n3 0\n4 0\n5 0\n6 0\n7 0\n8 0\n9 0\n10 0\n11 0\n12 0\n13 0\n14 0\n15 0\n",
     },
     // 129 report bytes
@@ -528,7 +529,7 @@ pub const TEXTS: [Case; 68] = [
         size: 129,
         rows: 15,
         used: 66,
-        end: 51,
+        end: ReportFull,
         report: b"1 0\n2 0\n3 0\n4 0\n5 0\n6 0\n7 0\n8 0\n9 0\n10 0\n11 0\n12 0\n13 0\n14 0\n15 0\n",
     },
     // 130 report bytes
@@ -539,7 +540,7 @@ pub const TEXTS: [Case; 68] = [
         size: 130,
         rows: 16,
         used: 71,
-        end: 51,
+        end: ReportFull,
         report: b"1 0\n2 0\n3 0\n4 0\n5 0\n6 0\n7 0\n8 0\n9 0\n10 0\n11 0\n12 0\n13 0\n14 0\n15 0\n16 0\n",
     },
     // readings fill the report
@@ -550,7 +551,7 @@ pub const TEXTS: [Case; 68] = [
         size: 65536,
         rows: 2895,
         used: 65478,
-        end: 51,
+        end: ReportFull,
         report: b"2895 0 8388608p-23 0p0\n",
     },
     // refused lines fill the report
@@ -561,7 +562,7 @@ pub const TEXTS: [Case; 68] = [
         size: 65536,
         rows: 5122,
         used: 65479,
-        end: 51,
+        end: ReportFull,
         report: b"5122 no 43 1\n",
     },
     // as many turns as a text holds
@@ -572,7 +573,7 @@ pub const TEXTS: [Case; 68] = [
         size: 65536,
         rows: 2850,
         used: 26302,
-        end: 0,
+        end: Done,
         report: b"2849 2849\n2850 2849 0p0 8388608p-23\n",
     },
     // 65,536 bytes
@@ -583,7 +584,7 @@ pub const TEXTS: [Case; 68] = [
         size: 65536,
         rows: 1,
         used: 10,
-        end: 0,
+        end: Done,
         report: b"1 no 41 0\n",
     },
     // 65,537 bytes
@@ -594,7 +595,7 @@ pub const TEXTS: [Case; 68] = [
         size: 65536,
         rows: 0,
         used: 0,
-        end: 61,
+        end: TextTooLong,
         report: b"",
     },
     // 65,536 bytes with a byte 10
@@ -605,7 +606,7 @@ pub const TEXTS: [Case; 68] = [
         size: 65536,
         rows: 1,
         used: 10,
-        end: 0,
+        end: Done,
         report: b"1 no 41 0\n",
     },
     // 65,537 bytes with a byte 10
@@ -616,7 +617,7 @@ pub const TEXTS: [Case; 68] = [
         size: 65536,
         rows: 0,
         used: 0,
-        end: 61,
+        end: TextTooLong,
         report: b"",
     },
     // 65,536 bytes, most of them behind an empty line
@@ -627,7 +628,7 @@ pub const TEXTS: [Case; 68] = [
         size: 65536,
         rows: 1,
         used: 20,
-        end: 0,
+        end: Done,
         report: b"1 0 8388608p-23 0p0\n",
     },
     // 65,537 bytes, most of them behind an empty line
@@ -638,7 +639,7 @@ pub const TEXTS: [Case; 68] = [
         size: 65536,
         rows: 0,
         used: 0,
-        end: 61,
+        end: TextTooLong,
         report: b"",
     },
     // 65,536 bytes, and no row
@@ -649,7 +650,7 @@ pub const TEXTS: [Case; 68] = [
         size: 65536,
         rows: 0,
         used: 0,
-        end: 0,
+        end: Done,
         report: b"",
     },
     // 65,537 bytes, and no row
@@ -660,7 +661,7 @@ pub const TEXTS: [Case; 68] = [
         size: 65536,
         rows: 0,
         used: 0,
-        end: 61,
+        end: TextTooLong,
         report: b"",
     },
     // 65,537 bytes that would fill the report
@@ -671,7 +672,7 @@ pub const TEXTS: [Case; 68] = [
         size: 65536,
         rows: 0,
         used: 0,
-        end: 61,
+        end: TextTooLong,
         report: b"",
     },
     // 131,072 bytes
@@ -682,7 +683,7 @@ pub const TEXTS: [Case; 68] = [
         size: 65536,
         rows: 0,
         used: 0,
-        end: 61,
+        end: TextTooLong,
         report: b"",
     },
     // 65,537 bytes, 64 report bytes
@@ -693,7 +694,7 @@ pub const TEXTS: [Case; 68] = [
         size: 64,
         rows: 0,
         used: 0,
-        end: 61,
+        end: TextTooLong,
         report: b"",
     },
     // 65,537 bytes, 63 report bytes
@@ -704,7 +705,7 @@ pub const TEXTS: [Case; 68] = [
         size: 63,
         rows: 0,
         used: 0,
-        end: 51,
+        end: ReportFull,
         report: b"",
     },
     // 65,537 bytes, no report bytes
@@ -715,7 +716,7 @@ pub const TEXTS: [Case; 68] = [
         size: 0,
         rows: 0,
         used: 0,
-        end: 51,
+        end: ReportFull,
         report: b"",
     },
     // 65,536 bytes, 63 report bytes
@@ -726,7 +727,7 @@ pub const TEXTS: [Case; 68] = [
         size: 63,
         rows: 0,
         used: 0,
-        end: 51,
+        end: ReportFull,
         report: b"",
     },
     // 65,537 bytes, 63 report bytes, and no row
@@ -737,7 +738,7 @@ pub const TEXTS: [Case; 68] = [
         size: 63,
         rows: 0,
         used: 0,
-        end: 61,
+        end: TextTooLong,
         report: b"",
     },
     // 65,537 bytes, no report bytes, and no row
@@ -748,7 +749,7 @@ pub const TEXTS: [Case; 68] = [
         size: 0,
         rows: 0,
         used: 0,
-        end: 61,
+        end: TextTooLong,
         report: b"",
     },
 ];
@@ -762,7 +763,7 @@ pub const DECIMAL_TEXTS: [Case; 4] = [
         size: 65536,
         rows: 4,
         used: 46,
-        end: 0,
+        end: Done,
         report: b"1 1\n2 1 0e0 1000000e-6\n3 0\n4 0 1000000e-6 0e0\n",
     },
     // a refused turn leaves its lane
@@ -773,7 +774,7 @@ pub const DECIMAL_TEXTS: [Case; 4] = [
         size: 65536,
         rows: 3,
         used: 34,
-        end: 0,
+        end: Done,
         report: b"1 1\n2 no 33 0\n3 1 1000000e200 0e0\n",
     },
     // 100 report bytes
@@ -784,7 +785,7 @@ pub const DECIMAL_TEXTS: [Case; 4] = [
         size: 100,
         rows: 2,
         used: 38,
-        end: 51,
+        end: ReportFull,
         report: b"1 0 1000000e-6 0e0\n2 0 1000000e-6 0e0\n",
     },
     // readings fill the report
@@ -795,7 +796,7 @@ pub const DECIMAL_TEXTS: [Case; 4] = [
         size: 65536,
         rows: 3027,
         used: 65487,
-        end: 51,
+        end: ReportFull,
         report: b"3027 0 1000000e-6 0e0\n",
     },
 ];
@@ -809,7 +810,7 @@ pub const SYMMETRIC_TEXTS: [Case; 3] = [
         size: 65536,
         rows: 1,
         used: 13,
-        end: 0,
+        end: Done,
         report: b"1 8388608p23\n",
     },
     // a turn and a restart
@@ -820,7 +821,7 @@ pub const SYMMETRIC_TEXTS: [Case; 3] = [
         size: 65536,
         rows: 4,
         used: 48,
-        end: 0,
+        end: Done,
         report: b"1 1\n2 1 0p0 8388608p-23\n3 0\n4 0 8388608p-23 0p0\n",
     },
     // the other kind's mark
@@ -831,7 +832,7 @@ pub const SYMMETRIC_TEXTS: [Case; 3] = [
         size: 65536,
         rows: 1,
         used: 10,
-        end: 0,
+        end: Done,
         report: b"1 no 45 5\n",
     },
 ];
@@ -840,558 +841,564 @@ pub const ANSWERED: [Line; 18] = [
     // 2 x 3 + 5 x 7 = 41
     (
         b"sum 8388608p-22 12582912p-22 10485760p-21 14680064p-21",
-        b"10747904p-18",
+        b"1 10747904p-18\n",
     ),
     // 2 x 7 - 3 x 5 = -1
     (
         b"det 8388608p-22 12582912p-22 10485760p-21 14680064p-21",
-        b"-8388608p-23",
+        b"1 -8388608p-23\n",
     ),
     // (2 + 3i)(5 + 7i) = -11 + 29i
     (
         b"mul 8388608p-22 12582912p-22 10485760p-21 14680064p-21",
-        b"-11534336p-20 15204352p-19",
+        b"1 -11534336p-20 15204352p-19\n",
     ),
     // zeros alone
-    (b"sum 0p0 0p0 0p0 0p0", b"0p0"),
+    (b"sum 0p0 0p0 0p0 0p0", b"1 0p0\n"),
     // zeros alone
-    (b"mul 0p0 0p0 0p0 0p0", b"0p0 0p0"),
+    (b"mul 0p0 0p0 0p0 0p0", b"1 0p0 0p0\n"),
     // all is cancelled
-    (b"sum 8388609p7 8388611p-9 -8388611p-9 8388609p7", b"0p0"),
+    (
+        b"sum 8388609p7 8388611p-9 -8388611p-9 8388609p7",
+        b"1 0p0\n",
+    ),
     // nearly all is cancelled
     (
         b"det 8388609p-23 8388608p-23 8388610p-23 8388609p-23",
-        b"8388608p-69",
+        b"1 8388608p-69\n",
     ),
     // Kahan's method is one unit off
     (
         b"sum 16777215p0 8388610p-2 16777215p0 8388609p-2",
-        b"8388609p23",
+        b"1 8388609p23\n",
     ),
     // a tie, to the even neighbour above
-    (b"sum 12582912p-23 8388609p-23 0p0 0p0", b"12582914p-23"),
+    (b"sum 12582912p-23 8388609p-23 0p0 0p0", b"1 12582914p-23\n"),
     // a tie, to the even neighbour below
-    (b"sum 0p0 0p0 12582912p-23 8388611p-23", b"12582916p-23"),
+    (b"sum 0p0 0p0 12582912p-23 8388611p-23", b"1 12582916p-23\n"),
     // a tie, to a power of two
     (
         b"sum 16777215p0 8388608p-23 8388608p-24 8388608p-23",
-        b"8388608p1",
+        b"1 8388608p1\n",
     ),
     // just below a power of two
     (
         b"det 8388608p0 8388608p-25 8388608p-23 8388608p-23",
-        b"8388608p0",
+        b"1 8388608p0\n",
     ),
     // the largest exponents
     (
         b"sum 8388608p200 8388608p200 8388608p200 8388608p200",
-        b"8388608p424",
+        b"1 8388608p424\n",
     ),
     // the largest figures
     (
         b"det 16777215p200 -16777215p200 16777215p200 16777215p200",
-        b"16777214p425",
+        b"1 16777214p425\n",
     ),
     // the smallest exponents
     (
         b"mul 8388608p-200 0p0 -8388608p-200 0p0",
-        b"-8388608p-377 0p0",
+        b"1 -8388608p-377 0p0\n",
     ),
     // a fresh lane
-    (b"read 0", b"0 8388608p-23 0p0"),
+    (b"read 0", b"1 0 8388608p-23 0p0\n"),
     // the last lane
-    (b"read 9", b"0 8388608p-23 0p0"),
+    (b"read 9", b"1 0 8388608p-23 0p0\n"),
     // a fresh lane is fresh again
-    (b"restart 0", b"0"),
+    (b"restart 0", b"1 0\n"),
 ];
 
 pub const TOO_LONG: [Line; 10] = [
     // 80 bytes that are no verb
     (
         b"xxxxxxxxxxxxxxxxxxxxxxxxxxxxxxxxxxxxxxxxxxxxxxxxxxxxxxxxxxxxxxxxxxxxxxxxxxxxxxxx",
-        b"no 43 1",
+        b"1 no 43 1\n",
     ),
     // 81 bytes that are no verb
     (
         b"xxxxxxxxxxxxxxxxxxxxxxxxxxxxxxxxxxxxxxxxxxxxxxxxxxxxxxxxxxxxxxxxxxxxxxxxxxxxxxxxx",
-        b"no 41 0",
+        b"1 no 41 0\n",
     ),
     // 80 bytes of a call and of spaces
     (
         b"read 0                                                                          ",
-        b"no 42 0",
+        b"1 no 42 0\n",
     ),
     // 81 bytes of a call and of spaces
     (
         b"read 0                                                                           ",
-        b"no 41 0",
+        b"1 no 41 0\n",
     ),
     // 80 spaces
     (
         b"                                                                                ",
-        b"no 43 1",
+        b"1 no 43 1\n",
     ),
     // 81 spaces
     (
         b"                                                                                 ",
-        b"no 41 0",
+        b"1 no 41 0\n",
     ),
     // 80 bytes, a byte 13 the last of them
     (
         b"xxxxxxxxxxxxxxxxxxxxxxxxxxxxxxxxxxxxxxxxxxxxxxxxxxxxxxxxxxxxxxxxxxxxxxxxxxxxxxx\r",
-        b"no 43 1",
+        b"1 no 43 1\n",
     ),
     // a byte 13 counts
     (
         b"xxxxxxxxxxxxxxxxxxxxxxxxxxxxxxxxxxxxxxxxxxxxxxxxxxxxxxxxxxxxxxxxxxxxxxxxxxxxxxxx\r",
-        b"no 41 0",
+        b"1 no 41 0\n",
     ),
     // a call with a last word of 72 bytes
     (
         b"turn 3 0000000000000000000000000000000000000000000000000000000000000000000000000",
-        b"no 42 0",
+        b"1 no 42 0\n",
     ),
     // a call with a last word of 73 bytes
     (
         b"turn 3 00000000000000000000000000000000000000000000000000000000000000000000000000",
-        b"no 41 0",
+        b"1 no 41 0\n",
     ),
 ];
 
 pub const UNKNOWN_VERBS: [Line; 21] = [
     // capitals
-    (b"SUM 0p0 0p0 0p0 0p0", b"no 43 1"),
+    (b"SUM 0p0 0p0 0p0 0p0", b"1 no 43 1\n"),
     // a capital
-    (b"Read 0", b"no 43 1"),
+    (b"Read 0", b"1 no 43 1\n"),
     // a verb and a letter
-    (b"reads 0", b"no 43 1"),
+    (b"reads 0", b"1 no 43 1\n"),
     // a verb less a letter
-    (b"rea 0", b"no 43 1"),
+    (b"rea 0", b"1 no 43 1\n"),
     // a verb and a byte 9
-    (b"read\t0", b"no 43 1"),
+    (b"read\t0", b"1 no 43 1\n"),
     // a verb and a byte 0
-    (b"read\x00 0", b"no 43 1"),
+    (b"read\x00 0", b"1 no 43 1\n"),
     // two verbs in one
-    (b"turnread 3", b"no 43 1"),
+    (b"turnread 3", b"1 no 43 1\n"),
     // a longer name
-    (b"determinant 0p0 0p0 0p0 0p0", b"no 43 1"),
+    (b"determinant 0p0 0p0 0p0 0p0", b"1 no 43 1\n"),
     // a number for a verb
-    (b"0p0 0p0 0p0 0p0 0p0", b"no 43 1"),
+    (b"0p0 0p0 0p0 0p0 0p0", b"1 no 43 1\n"),
     // a lane for a verb
-    (b"3", b"no 43 1"),
+    (b"3", b"1 no 43 1\n"),
     // a space before the verb
-    (b" read 0", b"no 43 1"),
+    (b" read 0", b"1 no 43 1\n"),
     // one space
-    (b" ", b"no 43 1"),
+    (b" ", b"1 no 43 1\n"),
     // a byte 13 alone
-    (b"\r", b"no 43 1"),
+    (b"\r", b"1 no 43 1\n"),
     // a byte 9 alone
-    (b"\t", b"no 43 1"),
+    (b"\t", b"1 no 43 1\n"),
     // a byte 0 alone
-    (b"\x00", b"no 43 1"),
+    (b"\x00", b"1 no 43 1\n"),
     // a byte above 127 alone
-    (b"\xff", b"no 43 1"),
+    (b"\xff", b"1 no 43 1\n"),
     // letters above 127
-    (b"s\xc3\xbcm 0p0 0p0 0p0 0p0", b"no 43 1"),
+    (b"s\xc3\xbcm 0p0 0p0 0p0 0p0", b"1 no 43 1\n"),
     // a space of two bytes
-    (b"read\xc2\xa00", b"no 43 1"),
+    (b"read\xc2\xa00", b"1 no 43 1\n"),
     // no verb and too few words
-    (b"add", b"no 43 1"),
+    (b"add", b"1 no 43 1\n"),
     // no verb and too many words
-    (b"add 1 2 3 4 5 6 7", b"no 43 1"),
+    (b"add 1 2 3 4 5 6 7", b"1 no 43 1\n"),
     // no verb and no number
-    (b"add x x x x", b"no 43 1"),
+    (b"add x x x x", b"1 no 43 1\n"),
 ];
 
 pub const WORD_COUNTS: [Line; 17] = [
     // a verb alone
-    (b"sum", b"no 42 0"),
+    (b"sum", b"1 no 42 0\n"),
     // a verb alone
-    (b"read", b"no 42 0"),
+    (b"read", b"1 no 42 0\n"),
     // a verb and a byte less
-    (b"sum 0p0 0p0 0p0", b"no 42 0"),
+    (b"sum 0p0 0p0 0p0", b"1 no 42 0\n"),
     // one number too many
-    (b"sum 0p0 0p0 0p0 0p0 0p0", b"no 42 0"),
+    (b"sum 0p0 0p0 0p0 0p0 0p0", b"1 no 42 0\n"),
     // one number too few
-    (b"det 0p0 0p0 0p0", b"no 42 0"),
+    (b"det 0p0 0p0 0p0", b"1 no 42 0\n"),
     // one number too many
-    (b"mul 0p0 0p0 0p0 0p0 0p0", b"no 42 0"),
+    (b"mul 0p0 0p0 0p0 0p0 0p0", b"1 no 42 0\n"),
     // one number too few
-    (b"turn 3 0p0", b"no 42 0"),
+    (b"turn 3 0p0", b"1 no 42 0\n"),
     // one number too many
-    (b"turn 3 0p0 0p0 0p0", b"no 42 0"),
+    (b"turn 3 0p0 0p0 0p0", b"1 no 42 0\n"),
     // no lane
-    (b"restart", b"no 42 0"),
+    (b"restart", b"1 no 42 0\n"),
     // two lanes
-    (b"restart 3 3", b"no 42 0"),
+    (b"restart 3 3", b"1 no 42 0\n"),
     // two lanes
-    (b"read 3 3", b"no 42 0"),
+    (b"read 3 3", b"1 no 42 0\n"),
     // a space behind the last word
-    (b"read 0 ", b"no 42 0"),
+    (b"read 0 ", b"1 no 42 0\n"),
     // a doubled space
-    (b"read  0", b"no 42 0"),
+    (b"read  0", b"1 no 42 0\n"),
     // a doubled space
-    (b"sum 0p0 0p0  0p0 0p0", b"no 42 0"),
+    (b"sum 0p0 0p0  0p0 0p0", b"1 no 42 0\n"),
     // too few words, and one is no number
-    (b"sum x", b"no 42 0"),
+    (b"sum x", b"1 no 42 0\n"),
     // too many words, and one has the other mark
-    (b"turn 3 0e0 0p0 0p0", b"no 42 0"),
+    (b"turn 3 0e0 0p0 0p0", b"1 no 42 0\n"),
     // too many words, and the first is no lane
-    (b"read x 0", b"no 42 0"),
+    (b"read x 0", b"1 no 42 0\n"),
 ];
 
 pub const NUMBER_WORDS: [Line; 61] = [
     // a word that is no number
-    (b"sum -0p0 0p0 0p0 0p0", b"no 44 2"),
+    (b"sum -0p0 0p0 0p0 0p0", b"1 no 44 2\n"),
     // a word that is no number
-    (b"sum 0p0 0p-0 0p0 0p0", b"no 44 3"),
+    (b"sum 0p0 0p-0 0p0 0p0", b"1 no 44 3\n"),
     // a word that is no number
-    (b"sum 0p0 0p0 -0p5 0p0", b"no 44 4"),
+    (b"sum 0p0 0p0 -0p5 0p0", b"1 no 44 4\n"),
     // a word that is no number
-    (b"sum 0p0 0p0 0p0 00p0", b"no 44 5"),
+    (b"sum 0p0 0p0 0p0 00p0", b"1 no 44 5\n"),
     // a word that is no number
-    (b"sum 0p00 0p0 0p0 0p0", b"no 44 2"),
+    (b"sum 0p00 0p0 0p0 0p0", b"1 no 44 2\n"),
     // a word that is no number
-    (b"sum 0p0 0p05 0p0 0p0", b"no 44 3"),
+    (b"sum 0p0 0p05 0p0 0p0", b"1 no 44 3\n"),
     // a word that is no number
-    (b"sum 0p0 0p0 01p0 0p0", b"no 44 4"),
+    (b"sum 0p0 0p0 01p0 0p0", b"1 no 44 4\n"),
     // a word that is no number
-    (b"sum 0p0 0p0 0p0 -01p0", b"no 44 5"),
+    (b"sum 0p0 0p0 0p0 -01p0", b"1 no 44 5\n"),
     // a word that is no number
-    (b"sum 1p01 0p0 0p0 0p0", b"no 44 2"),
+    (b"sum 1p01 0p0 0p0 0p0", b"1 no 44 2\n"),
     // a word that is no number
-    (b"sum 0p0 1p-01 0p0 0p0", b"no 44 3"),
+    (b"sum 0p0 1p-01 0p0 0p0", b"1 no 44 3\n"),
     // a word that is no number
-    (b"sum 0p0 0p0 123456789p0 0p0", b"no 44 4"),
+    (b"sum 0p0 0p0 123456789p0 0p0", b"1 no 44 4\n"),
     // a word that is no number
-    (b"sum 0p0 0p0 0p0 -123456789p0", b"no 44 5"),
+    (b"sum 0p0 0p0 0p0 -123456789p0", b"1 no 44 5\n"),
     // a word that is no number
-    (b"sum 000000000p0 0p0 0p0 0p0", b"no 44 2"),
+    (b"sum 000000000p0 0p0 0p0 0p0", b"1 no 44 2\n"),
     // a word that is no number
-    (b"sum 0p0 4294967296p0 0p0 0p0", b"no 44 3"),
+    (b"sum 0p0 4294967296p0 0p0 0p0", b"1 no 44 3\n"),
     // a word that is no number
-    (b"sum 0p0 0p0 1p12345 0p0", b"no 44 4"),
+    (b"sum 0p0 0p0 1p12345 0p0", b"1 no 44 4\n"),
     // a word that is no number
-    (b"sum 0p0 0p0 0p0 1p-12345", b"no 44 5"),
+    (b"sum 0p0 0p0 0p0 1p-12345", b"1 no 44 5\n"),
     // a word that is no number
-    (b"sum 1p00000 0p0 0p0 0p0", b"no 44 2"),
+    (b"sum 1p00000 0p0 0p0 0p0", b"1 no 44 2\n"),
     // a word that is no number
-    (b"sum 0p0 1P0 0p0 0p0", b"no 44 3"),
+    (b"sum 0p0 1P0 0p0 0p0", b"1 no 44 3\n"),
     // a word that is no number
-    (b"sum 0p0 0p0 0E0 0p0", b"no 44 4"),
+    (b"sum 0p0 0p0 0E0 0p0", b"1 no 44 4\n"),
     // a word that is no number
-    (b"sum 0p0 0p0 0p0 1x0", b"no 44 5"),
+    (b"sum 0p0 0p0 0p0 1x0", b"1 no 44 5\n"),
     // a word that is no number
-    (b"sum +1p0 0p0 0p0 0p0", b"no 44 2"),
+    (b"sum +1p0 0p0 0p0 0p0", b"1 no 44 2\n"),
     // a word that is no number
-    (b"sum 0p0 1p+1 0p0 0p0", b"no 44 3"),
+    (b"sum 0p0 1p+1 0p0 0p0", b"1 no 44 3\n"),
     // a word that is no number
-    (b"sum 0p0 0p0 --1p0 0p0", b"no 44 4"),
+    (b"sum 0p0 0p0 --1p0 0p0", b"1 no 44 4\n"),
     // a word that is no number
-    (b"sum 0p0 0p0 0p0 1p--1", b"no 44 5"),
+    (b"sum 0p0 0p0 0p0 1p--1", b"1 no 44 5\n"),
     // a word that is no number
-    (b"sum 1p 0p0 0p0 0p0", b"no 44 2"),
+    (b"sum 1p 0p0 0p0 0p0", b"1 no 44 2\n"),
     // a word that is no number
-    (b"sum 0p0 p1 0p0 0p0", b"no 44 3"),
+    (b"sum 0p0 p1 0p0 0p0", b"1 no 44 3\n"),
     // a word that is no number
-    (b"sum 0p0 0p0 -p1 0p0", b"no 44 4"),
+    (b"sum 0p0 0p0 -p1 0p0", b"1 no 44 4\n"),
     // a word that is no number
-    (b"sum 0p0 0p0 0p0 1p-", b"no 44 5"),
+    (b"sum 0p0 0p0 0p0 1p-", b"1 no 44 5\n"),
     // a word that is no number
-    (b"sum p 0p0 0p0 0p0", b"no 44 2"),
+    (b"sum p 0p0 0p0 0p0", b"1 no 44 2\n"),
     // a word that is no number
-    (b"sum 0p0 - 0p0 0p0", b"no 44 3"),
+    (b"sum 0p0 - 0p0 0p0", b"1 no 44 3\n"),
     // a word that is no number
-    (b"sum 0p0 0p0 1 0p0", b"no 44 4"),
+    (b"sum 0p0 0p0 1 0p0", b"1 no 44 4\n"),
     // a word that is no number
-    (b"sum 0p0 0p0 0p0 1.5p0", b"no 44 5"),
+    (b"sum 0p0 0p0 0p0 1.5p0", b"1 no 44 5\n"),
     // a word that is no number
-    (b"sum 1pp0 0p0 0p0 0p0", b"no 44 2"),
+    (b"sum 1pp0 0p0 0p0 0p0", b"1 no 44 2\n"),
     // a word that is no number
-    (b"sum 0p0 1p0p0 0p0 0p0", b"no 44 3"),
+    (b"sum 0p0 1p0p0 0p0 0p0", b"1 no 44 3\n"),
     // a word that is no number
-    (b"sum 0p0 0p0 1p0e0 0p0", b"no 44 4"),
+    (b"sum 0p0 0p0 1p0e0 0p0", b"1 no 44 4\n"),
     // a word that is no number
-    (b"sum 0p0 0p0 0p0 0e0x", b"no 44 5"),
+    (b"sum 0p0 0p0 0p0 0e0x", b"1 no 44 5\n"),
     // a word that is no number
-    (b"sum x0p0 0p0 0p0 0p0", b"no 44 2"),
+    (b"sum x0p0 0p0 0p0 0p0", b"1 no 44 2\n"),
     // a word that is no number
-    (b"sum 0p0 0p0\r 0p0 0p0", b"no 44 3"),
+    (b"sum 0p0 0p0\r 0p0 0p0", b"1 no 44 3\n"),
     // a word that is no number
-    (b"sum 0p0 0p0 0p0\t 0p0", b"no 44 4"),
+    (b"sum 0p0 0p0 0p0\t 0p0", b"1 no 44 4\n"),
     // a word that is no number
-    (b"sum 0p0 0p0 0p0 \t0p0", b"no 44 5"),
+    (b"sum 0p0 0p0 0p0 \t0p0", b"1 no 44 5\n"),
     // a word that is no number
-    (b"sum 0p\x000 0p0 0p0 0p0", b"no 44 2"),
+    (b"sum 0p\x000 0p0 0p0 0p0", b"1 no 44 2\n"),
     // a word that is no number
-    (b"sum 0p0 0p0\x00 0p0 0p0", b"no 44 3"),
+    (b"sum 0p0 0p0\x00 0p0 0p0", b"1 no 44 3\n"),
     // a word that is no number
-    (b"sum 0p0 0p0 /p0 0p0", b"no 44 4"),
+    (b"sum 0p0 0p0 /p0 0p0", b"1 no 44 4\n"),
     // a word that is no number
-    (b"sum 0p0 0p0 0p0 :p0", b"no 44 5"),
+    (b"sum 0p0 0p0 0p0 :p0", b"1 no 44 5\n"),
     // a word that is no number
-    (b"sum 1p/ 0p0 0p0 0p0", b"no 44 2"),
+    (b"sum 1p/ 0p0 0p0 0p0", b"1 no 44 2\n"),
     // a word that is no number
-    (b"sum 0p0 1p: 0p0 0p0", b"no 44 3"),
+    (b"sum 0p0 1p: 0p0 0p0", b"1 no 44 3\n"),
     // a word that is no number
-    (b"sum 0p0 0p0 1\xb9p0 0p0", b"no 44 4"),
+    (b"sum 0p0 0p0 1\xb9p0 0p0", b"1 no 44 4\n"),
     // a word that is no number
-    (b"sum 0p0 0p0 0p0 \xb9p0", b"no 44 5"),
+    (b"sum 0p0 0p0 0p0 \xb9p0", b"1 no 44 5\n"),
     // a word that is no number
-    (b"sum 1p\xb2 0p0 0p0 0p0", b"no 44 2"),
+    (b"sum 1p\xb2 0p0 0p0 0p0", b"1 no 44 2\n"),
     // a word that is no number
-    (b"sum 0p0 \xef\xbc\x91p0 0p0 0p0", b"no 44 3"),
+    (b"sum 0p0 \xef\xbc\x91p0 0p0 0p0", b"1 no 44 3\n"),
     // a word that is no number
-    (b"sum 0p0 0p0  0p0", b"no 44 4"),
+    (b"sum 0p0 0p0  0p0", b"1 no 44 4\n"),
     // no number in a determinant
-    (b"det 0p0 0p0 0p0 x", b"no 44 5"),
+    (b"det 0p0 0p0 0p0 x", b"1 no 44 5\n"),
     // no number in a product
-    (b"mul x 0p0 0p0 0p0", b"no 44 2"),
+    (b"mul x 0p0 0p0 0p0", b"1 no 44 2\n"),
     // no number in a turn
-    (b"turn 3 x 0p0", b"no 44 3"),
+    (b"turn 3 x 0p0", b"1 no 44 3\n"),
     // no number in a turn
-    (b"turn 3 0p0 x", b"no 44 4"),
+    (b"turn 3 0p0 x", b"1 no 44 4\n"),
     // a space for the last number
-    (b"turn 3 0p0 ", b"no 44 4"),
+    (b"turn 3 0p0 ", b"1 no 44 4\n"),
     // a doubled space, and a number too few
-    (b"sum 0p0  0p0 0p0", b"no 44 3"),
+    (b"sum 0p0  0p0 0p0", b"1 no 44 3\n"),
     // two words that are no numbers: the left one counts
-    (b"sum 0p0 x x 0p0", b"no 44 3"),
+    (b"sum 0p0 x x 0p0", b"1 no 44 3\n"),
     // no number on the right of one that no method accepts
-    (b"sum 1p0 x 0p0 0p0", b"no 44 3"),
+    (b"sum 1p0 x 0p0 0p0", b"1 no 44 3\n"),
     // no number on the right of another mark
-    (b"sum 0e0 x 0p0 0p0", b"no 45 2"),
+    (b"sum 0e0 x 0p0 0p0", b"1 no 45 2\n"),
     // no number on the left of another mark
-    (b"sum x 0e0 0p0 0p0", b"no 44 2"),
+    (b"sum x 0e0 0p0 0p0", b"1 no 44 2\n"),
 ];
 
 pub const OTHER_MARKS: [Line; 8] = [
     // the other kind's mark
-    (b"sum 0e0 0p0 0p0 0p0", b"no 45 2"),
+    (b"sum 0e0 0p0 0p0 0p0", b"1 no 45 2\n"),
     // the other kind's mark
-    (b"det 0p0 8388608e-23 0p0 0p0", b"no 45 3"),
+    (b"det 0p0 8388608e-23 0p0 0p0", b"1 no 45 3\n"),
     // the other kind's mark
-    (b"mul 0p0 0p0 -1e-1 0p0", b"no 45 4"),
+    (b"mul 0p0 0p0 -1e-1 0p0", b"1 no 45 4\n"),
     // the other kind's mark
-    (b"sum 0p0 0p0 0p0 1000000e-6", b"no 45 5"),
+    (b"sum 0p0 0p0 0p0 1000000e-6", b"1 no 45 5\n"),
     // the other kind's mark
-    (b"turn 3 1000000e-6 0e0", b"no 45 3"),
+    (b"turn 3 1000000e-6 0e0", b"1 no 45 3\n"),
     // the other kind's mark
-    (b"turn 3 0p0 0e0", b"no 45 4"),
+    (b"turn 3 0p0 0e0", b"1 no 45 4\n"),
     // no figure of either kind, by its mark
-    (b"sum 99999999e9999 0p0 0p0 0p0", b"no 45 2"),
+    (b"sum 99999999e9999 0p0 0p0 0p0", b"1 no 45 2\n"),
     // another mark on the right of a number that no method accepts
-    (b"sum 1p0 0e0 0p0 0p0", b"no 45 3"),
+    (b"sum 1p0 0e0 0p0 0p0", b"1 no 45 3\n"),
 ];
 
 pub const NO_LANES: [Line; 31] = [
     // a word that is no lane
-    (b"read 00", b"no 44 2"),
+    (b"read 00", b"1 no 44 2\n"),
     // a word that is no lane
-    (b"read 01", b"no 44 2"),
+    (b"read 01", b"1 no 44 2\n"),
     // a word that is no lane
-    (b"read 010", b"no 44 2"),
+    (b"read 010", b"1 no 44 2\n"),
     // a word that is no lane
-    (b"read 100", b"no 44 2"),
+    (b"read 100", b"1 no 44 2\n"),
     // a word that is no lane
-    (b"read -1", b"no 44 2"),
+    (b"read -1", b"1 no 44 2\n"),
     // a word that is no lane
-    (b"read -0", b"no 44 2"),
+    (b"read -0", b"1 no 44 2\n"),
     // a word that is no lane
-    (b"read +3", b"no 44 2"),
+    (b"read +3", b"1 no 44 2\n"),
     // a word that is no lane
-    (b"read 3p0", b"no 44 2"),
+    (b"read 3p0", b"1 no 44 2\n"),
     // a word that is no lane
-    (b"read x", b"no 44 2"),
+    (b"read x", b"1 no 44 2\n"),
     // a word that is no lane
-    (b"read ", b"no 44 2"),
+    (b"read ", b"1 no 44 2\n"),
     // a word that is no lane
-    (b"read 3\r", b"no 44 2"),
+    (b"read 3\r", b"1 no 44 2\n"),
     // a word that is no lane
-    (b"read \t3", b"no 44 2"),
+    (b"read \t3", b"1 no 44 2\n"),
     // a word that is no lane
-    (b"read 3.", b"no 44 2"),
+    (b"read 3.", b"1 no 44 2\n"),
     // a word that is no lane
-    (b"read \xb3", b"no 44 2"),
+    (b"read \xb3", b"1 no 44 2\n"),
     // a word that is no lane
-    (b"read :", b"no 44 2"),
+    (b"read :", b"1 no 44 2\n"),
     // a word that is no lane
-    (b"read /", b"no 44 2"),
+    (b"read /", b"1 no 44 2\n"),
     // no lane to restart
-    (b"restart 03", b"no 44 2"),
+    (b"restart 03", b"1 no 44 2\n"),
     // no lane to turn
-    (b"turn 03 0p0 0p0", b"no 44 2"),
+    (b"turn 03 0p0 0p0", b"1 no 44 2\n"),
     // no lane, and no number
-    (b"turn x x x", b"no 44 2"),
+    (b"turn x x x", b"1 no 44 2\n"),
     // no lane, and another mark
-    (b"turn 256 0e0 0p0", b"no 44 2"),
+    (b"turn 256 0e0 0p0", b"1 no 44 2\n"),
     // no lane, and numbers that no method accepts
-    (b"turn 00 1p0 1p0", b"no 44 2"),
+    (b"turn 00 1p0 1p0", b"1 no 44 2\n"),
     // the first lane that is not there
-    (b"read 10", b"no 31 2"),
+    (b"read 10", b"1 no 31 2\n"),
     // lane 11
-    (b"restart 11", b"no 31 2"),
+    (b"restart 11", b"1 no 31 2\n"),
     // lane 19
-    (b"read 19", b"no 31 2"),
+    (b"read 19", b"1 no 31 2\n"),
     // lane 20
-    (b"read 20", b"no 31 2"),
+    (b"read 20", b"1 no 31 2\n"),
     // lane 90
-    (b"restart 90", b"no 31 2"),
+    (b"restart 90", b"1 no 31 2\n"),
     // the last lane that is not there
-    (b"read 99", b"no 31 2"),
+    (b"read 99", b"1 no 31 2\n"),
     // lane 10 turned
-    (b"turn 10 8388608p-23 0p0", b"no 31 2"),
+    (b"turn 10 8388608p-23 0p0", b"1 no 31 2\n"),
     // lane 99, and numbers that no method accepts
-    (b"turn 99 1p0 8388608p201", b"no 31 2"),
+    (b"turn 99 1p0 8388608p201", b"1 no 31 2\n"),
     // lane 10, and no number
-    (b"turn 10 x 0p0", b"no 44 3"),
+    (b"turn 10 x 0p0", b"1 no 44 3\n"),
     // lane 10, and another mark
-    (b"turn 10 0p0 0e0", b"no 45 4"),
+    (b"turn 10 0p0 0e0", b"1 no 45 4\n"),
 ];
 
 pub const NO_FIGURES: [Line; 14] = [
     // zero with an exponent
-    (b"sum 0p5 0p0 0p0 0p0", b"no 21 2"),
+    (b"sum 0p5 0p0 0p0 0p0", b"1 no 21 2\n"),
     // zero with an exponent
-    (b"sum 0p0 0p-5 0p0 0p0", b"no 21 3"),
+    (b"sum 0p0 0p-5 0p0 0p0", b"1 no 21 3\n"),
     // zero with an exponent that no method accepts either
-    (b"sum 0p0 0p0 0p201 0p0", b"no 21 4"),
+    (b"sum 0p0 0p0 0p201 0p0", b"1 no 21 4\n"),
     // too few digits
-    (b"sum 0p0 0p0 0p0 1p0", b"no 21 5"),
+    (b"sum 0p0 0p0 0p0 1p0", b"1 no 21 5\n"),
     // one below the least significand
-    (b"det 8388607p0 0p0 0p0 0p0", b"no 21 2"),
+    (b"det 8388607p0 0p0 0p0 0p0", b"1 no 21 2\n"),
     // one below the least significand
-    (b"det 0p0 -8388607p0 0p0 0p0", b"no 21 3"),
+    (b"det 0p0 -8388607p0 0p0 0p0", b"1 no 21 3\n"),
     // one above the largest significand
-    (b"det 0p0 0p0 16777216p0 0p0", b"no 21 4"),
+    (b"det 0p0 0p0 16777216p0 0p0", b"1 no 21 4\n"),
     // one above the largest significand
-    (b"det 0p0 0p0 0p0 -16777216p0", b"no 21 5"),
+    (b"det 0p0 0p0 0p0 -16777216p0", b"1 no 21 5\n"),
     // one beyond the exponents of figures
-    (b"mul 8388608p2001 0p0 0p0 0p0", b"no 21 2"),
+    (b"mul 8388608p2001 0p0 0p0 0p0", b"1 no 21 2\n"),
     // one beyond the exponents of figures
-    (b"mul 0p0 8388608p-2001 0p0 0p0", b"no 21 3"),
+    (b"mul 0p0 8388608p-2001 0p0 0p0", b"1 no 21 3\n"),
     // the largest number
-    (b"mul 0p0 0p0 99999999p9999 0p0", b"no 21 4"),
+    (b"mul 0p0 0p0 99999999p9999 0p0", b"1 no 21 4\n"),
     // the smallest number
-    (b"mul 0p0 0p0 0p0 -99999999p-9999", b"no 21 5"),
+    (b"mul 0p0 0p0 0p0 -99999999p-9999", b"1 no 21 5\n"),
     // a turn by no figure
-    (b"turn 3 1p0 0p0", b"no 21 3"),
+    (b"turn 3 1p0 0p0", b"1 no 21 3\n"),
     // a turn by no figure
-    (b"turn 3 0p0 0p1", b"no 21 4"),
+    (b"turn 3 0p0 0p1", b"1 no 21 4\n"),
 ];
 
 pub const FAR_OPERANDS: [Line; 16] = [
     // one beyond the exponents of operands
-    (b"sum 8388608p201 0p0 0p0 0p0", b"no 22 2"),
+    (b"sum 8388608p201 0p0 0p0 0p0", b"1 no 22 2\n"),
     // one beyond the exponents of operands
-    (b"sum 0p0 -8388608p-201 0p0 0p0", b"no 22 3"),
+    (b"sum 0p0 -8388608p-201 0p0 0p0", b"1 no 22 3\n"),
     // the largest exponent of figures
-    (b"det 0p0 0p0 8388608p2000 0p0", b"no 22 4"),
+    (b"det 0p0 0p0 8388608p2000 0p0", b"1 no 22 4\n"),
     // the smallest exponent of figures
-    (b"det 0p0 0p0 0p0 16777215p-2000", b"no 22 5"),
+    (b"det 0p0 0p0 0p0 16777215p-2000", b"1 no 22 5\n"),
     // one beyond the exponents of operands
-    (b"mul -16777215p201 0p0 0p0 0p0", b"no 22 2"),
+    (b"mul -16777215p201 0p0 0p0 0p0", b"1 no 22 2\n"),
     // one beyond the exponents of operands
-    (b"mul 0p0 0p0 0p0 8388608p-201", b"no 22 5"),
+    (b"mul 0p0 0p0 0p0 8388608p-201", b"1 no 22 5\n"),
     // a turn by an operand that is too far
-    (b"turn 3 8388608p201 0p0", b"no 22 3"),
+    (b"turn 3 8388608p201 0p0", b"1 no 22 3\n"),
     // a turn by an operand that is too far
-    (b"turn 3 0p0 8388608p-201", b"no 22 4"),
+    (b"turn 3 0p0 8388608p-201", b"1 no 22 4\n"),
     // no figure on the right of one too far
-    (b"sum 8388608p201 1p0 0p0 0p0", b"no 22 2"),
+    (b"sum 8388608p201 1p0 0p0 0p0", b"1 no 22 2\n"),
     // no figure on the left of one too far
-    (b"sum 1p0 8388608p201 0p0 0p0", b"no 21 2"),
+    (b"sum 1p0 8388608p201 0p0 0p0", b"1 no 21 2\n"),
     // the second operand before the fourth
-    (b"det 0p0 8388608p201 0p0 1p0", b"no 22 3"),
+    (b"det 0p0 8388608p201 0p0 1p0", b"1 no 22 3\n"),
     // the second operand before the third
-    (b"det 0p0 1p0 8388608p201 0p0", b"no 21 3"),
+    (b"det 0p0 1p0 8388608p201 0p0", b"1 no 21 3\n"),
     // the second operand before the third
-    (b"mul 0p0 8388608p201 1p0 0p0", b"no 22 3"),
+    (b"mul 0p0 8388608p201 1p0 0p0", b"1 no 22 3\n"),
     // the third operand before the fourth
-    (b"mul 0p0 0p0 1p0 8388608p201", b"no 21 4"),
+    (b"mul 0p0 0p0 1p0 8388608p201", b"1 no 21 4\n"),
     // the real part before the imaginary one
-    (b"turn 3 8388608p201 1p0", b"no 22 3"),
+    (b"turn 3 8388608p201 1p0", b"1 no 22 3\n"),
     // the real part before the imaginary one
-    (b"turn 3 1p0 8388608p201", b"no 21 3"),
+    (b"turn 3 1p0 8388608p201", b"1 no 21 3\n"),
 ];
 
 pub const DECIMAL_LINES: [Line; 30] = [
     // 2 x 3 + 5 x 7 = 41
     (
         b"sum 2000000e-6 3000000e-6 5000000e-6 7000000e-6",
-        b"4100000e-5",
+        b"1 4100000e-5\n",
     ),
     // 2 x 7 - 3 x 5 = -1
     (
         b"det 2000000e-6 3000000e-6 5000000e-6 7000000e-6",
-        b"-1000000e-6",
+        b"1 -1000000e-6\n",
     ),
     // (2 + 3i)(5 + 7i) = -11 + 29i
     (
         b"mul 2000000e-6 3000000e-6 5000000e-6 7000000e-6",
-        b"-1100000e-5 2900000e-5",
+        b"1 -1100000e-5 2900000e-5\n",
     ),
     // zeros alone
-    (b"mul 0e0 0e0 0e0 0e0", b"0e0 0e0"),
+    (b"mul 0e0 0e0 0e0 0e0", b"1 0e0 0e0\n"),
     // nearly all is cancelled
     (
         b"det 1000001e-6 1000000e-6 1000002e-6 1000001e-6",
-        b"1000000e-18",
+        b"1 1000000e-18\n",
     ),
     // a tie, to the even neighbour
-    (b"sum 1500000e-6 1000001e-6 0e0 0e0", b"1500002e-6"),
+    (b"sum 1500000e-6 1000001e-6 0e0 0e0", b"1 1500002e-6\n"),
     // a tie, to a power of ten
     (
         b"sum 9999999e0 1000000e-6 5000000e-7 1000000e-6",
-        b"1000000e1",
+        b"1 1000000e1\n",
     ),
     // the largest exponents
-    (b"sum 1000000e200 1000000e200 0e0 0e0", b"1000000e406"),
+    (b"sum 1000000e200 1000000e200 0e0 0e0", b"1 1000000e406\n"),
     // the smallest exponents
-    (b"sum -1000000e-200 1000000e-200 0e0 0e0", b"-1000000e-394"),
+    (
+        b"sum -1000000e-200 1000000e-200 0e0 0e0",
+        b"1 -1000000e-394\n",
+    ),
     // a fresh lane
-    (b"read 0", b"0 1000000e-6 0e0"),
+    (b"read 0", b"1 0 1000000e-6 0e0\n"),
     // zero with an exponent
-    (b"sum 0e5 0e0 0e0 0e0", b"no 21 2"),
+    (b"sum 0e5 0e0 0e0 0e0", b"1 no 21 2\n"),
     // one below the least significand
-    (b"sum 0e0 999999e0 0e0 0e0", b"no 21 3"),
+    (b"sum 0e0 999999e0 0e0 0e0", b"1 no 21 3\n"),
     // one above the largest significand
-    (b"det 0e0 0e0 10000000e0 0e0", b"no 21 4"),
+    (b"det 0e0 0e0 10000000e0 0e0", b"1 no 21 4\n"),
     // a significand of the binary kind
-    (b"det 0e0 0e0 0e0 16777215e0", b"no 21 5"),
+    (b"det 0e0 0e0 0e0 16777215e0", b"1 no 21 5\n"),
     // one beyond the exponents of figures
-    (b"mul 1000000e2001 0e0 0e0 0e0", b"no 21 2"),
+    (b"mul 1000000e2001 0e0 0e0 0e0", b"1 no 21 2\n"),
     // one beyond the exponents of operands
-    (b"mul 0e0 1000000e201 0e0 0e0", b"no 22 3"),
+    (b"mul 0e0 1000000e201 0e0 0e0", b"1 no 22 3\n"),
     // the smallest exponent of figures
-    (b"turn 3 1000000e-2000 0e0", b"no 22 3"),
+    (b"turn 3 1000000e-2000 0e0", b"1 no 22 3\n"),
     // the second operand before the fourth
-    (b"det 0e0 1000000e201 0e0 1e0", b"no 22 3"),
+    (b"det 0e0 1000000e201 0e0 1e0", b"1 no 22 3\n"),
     // the other kind's mark
-    (b"sum 0e0 0e0 0p0 0e0", b"no 45 4"),
+    (b"sum 0e0 0e0 0p0 0e0", b"1 no 45 4\n"),
     // the other kind's mark
-    (b"turn 3 1000000e-6 8388608p-23", b"no 45 4"),
+    (b"turn 3 1000000e-6 8388608p-23", b"1 no 45 4\n"),
     // no number with the other mark
-    (b"sum 0p0x 0e0 0e0 0e0", b"no 44 2"),
+    (b"sum 0p0x 0e0 0e0 0e0", b"1 no 44 2\n"),
     // no number
-    (b"sum 0e0 0e0 0e0 0e-0", b"no 44 5"),
+    (b"sum 0e0 0e0 0e0 0e-0", b"1 no 44 5\n"),
     // no number
-    (b"sum 0E0 0e0 0e0 0e0", b"no 44 2"),
+    (b"sum 0E0 0e0 0e0 0e0", b"1 no 44 2\n"),
     // no number on the right of another mark
-    (b"sum 0p0 x 0e0 0e0", b"no 45 2"),
+    (b"sum 0p0 x 0e0 0e0", b"1 no 45 2\n"),
     // no number with two marks
-    (b"sum 1e0p0 0e0 0e0 0e0", b"no 44 2"),
+    (b"sum 1e0p0 0e0 0e0 0e0", b"1 no 44 2\n"),
     // lane 10
-    (b"read 10", b"no 31 2"),
+    (b"read 10", b"1 no 31 2\n"),
     // no lane
-    (b"read 010", b"no 44 2"),
+    (b"read 010", b"1 no 44 2\n"),
     // unknown verb
-    (b"Sum 0e0 0e0 0e0 0e0", b"no 43 1"),
+    (b"Sum 0e0 0e0 0e0 0e0", b"1 no 43 1\n"),
     // too few words
-    (b"sum 0e0 0e0 0e0", b"no 42 0"),
+    (b"sum 0e0 0e0 0e0", b"1 no 42 0\n"),
     // 81 bytes
     (
         b"eeeeeeeeeeeeeeeeeeeeeeeeeeeeeeeeeeeeeeeeeeeeeeeeeeeeeeeeeeeeeeeeeeeeeeeeeeeeeeeee",
-        b"no 41 0",
+        b"1 no 41 0\n",
     ),
 ];
