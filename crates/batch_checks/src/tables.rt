@@ -51,15 +51,15 @@ pub fn batch_stands<M: Method>(
     console: &mut Console<M>,
     text: &[u8],
     report: &mut [u8],
-    ended: Ended,
-    told: &[u8],
+    told: Ended,
+    lines: &[u8],
 ) -> Result<(), Fail>
     ensures { OnOk result (ended (run_batch M.Arith.RADIX M.Arith.PRECISION M.Arith.MARK
-        (M.Method.answer console.old.method) (length report.old) console.old.lanes text.now) ≡ «ended») }
+        (M.Method.answer console.old.method) (length report.old) console.old.lanes text.now) ≡ told) }
 {
     report.fill(UNTOUCHED);
-    ends_as_told(console, text, report, ended)?;
-    tells(report, ended.bytes, told)
+    ends_as_told(console, text, report, told)?;
+    tells(report, told.bytes, lines)
 }
 
 // Runs the batch of a case.
