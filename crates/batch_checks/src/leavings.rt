@@ -1,5 +1,5 @@
 // What a batch leaves of its console, and what it finds there.
-ghost use Rattle.std.specs.Prelude.{◌≡◌, OnOk};
+ghost use Rattle.std.specs.Prelude.{◌≡◌, ◌-◌, ◌++◌, IfOk, OnOk, length, take, replicate};
 ghost use Rattle.lanes.specs.Lanes.{at};
 
 use crate::tables::batch_stands;
@@ -10,6 +10,7 @@ use console::Console;
 use kinds::format::Format;
 use methods::method::Method;
 use rounding::figure;
+use std::alloc::{AllocError, Global};
 use std::test::Fail;
 
 // Passes only where the lane has this count.
@@ -86,23 +87,31 @@ fn batches_on_one_console() -> Result<(), Fail> {
     count_stands(&console, 3, 0)
 }
 
+// A text, cut to a size, or filled up to it with bytes 10.
+fn sized(alloc: Global, text: &[u8], size: usize) -> Result<Vec<u8>, AllocError>
+    ensures { IfOk result (λ sized. sized.items ≡ take size text.now ++ replicate (size - length text.now) 10) }
+{
+    let mut sized = Vec::from_slice(alloc, text)?;
+    sized.resize(size, b'\n')?;
+    Ok(sized)
+}
+
 // No row of a text that is too long is run.
 #[test]
 fn too_long_a_text(rt: HostRuntime) -> Result<(), Fail> {
     let mut console = Console::new(BINARY);
-    let mut text = vec![in rt.alloc(); b'\n'; 65_537]?;
-    text[..TWO_TURNS.len()].copy_from_slice(TWO_TURNS);
+    let text = sized(rt.alloc(), TWO_TURNS, 65_537)?;
     leaves(&mut console, &text, &mut [0; 99], 0, TextTooLong, b"")?;
     leaves(&mut console, &text, &mut [0; 63], 0, ReportFull, b"")?;
-    count_stands(&console, 3, 0)?;
-    leaves(
-        &mut console,
-        &text[..65_536],
-        &mut [0; 99],
-        2,
-        Done,
-        b"1 1\n2 2\n",
-    )?;
+    count_stands(&console, 3, 0)
+}
+
+// A text that is as long as it may be is run.
+#[test]
+fn text_of_65536_bytes(rt: HostRuntime) -> Result<(), Fail> {
+    let mut console = Console::new(BINARY);
+    let text = sized(rt.alloc(), TWO_TURNS, 65_536)?;
+    leaves(&mut console, &text, &mut [0; 99], 2, Done, b"1 1\n2 2\n")?;
     count_stands(&console, 3, 2)
 }
 
