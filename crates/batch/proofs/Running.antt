@@ -57,7 +57,7 @@ module _ (β p mark : ℕ) (m : Function) (from : List Lane) (all : List (ℕ ×
         let told : r.text ≡ take used now = text ∙ append-nil (take used now) in
         rw told (
         rw (length-take-le used now within)
-            (sym (take-append-drop used now) ∙ ap (λ (l : List ℕ). take used now ++ l) same)
+        (sym (take-append-drop used now) ∙ ap (λ (l : List ℕ). take used now ++ l) same)
         )
 
     -- at a row for which there is no room

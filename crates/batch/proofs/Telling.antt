@@ -66,9 +66,10 @@ module _ (β p mark : ℕ) (marked : IsMark mark) (m : Function) where
     k = suc run.k;
     rows = omega (arith, run.rows);
     within = omega (arith, run.within);
-    told = subst (RowsTold β p mark m (n + 1) ls (line ∷ take run.k lines)) (sym split)
-        (row.row,
-        subst (λ l. RowsTold β p mark m (n + 1 + 1) l (take run.k lines) (lines_of rest.text)) left_is run.told);
+    told = subst (RowsTold β p mark m (n + 1) ls (line ∷ take run.k lines)) (sym split) (
+      row.row,
+      subst (λ l. RowsTold β p mark m (n + 1 + 1) l (take run.k lines) (lines_of rest.text)) left_is run.told,
+    );
     closed = ap closed_lines split ∙ (ap (λ u. u ++ closed_lines (lines_of rest.text)) (sym row.closed)
         ∙ ap (λ u. t ++ u) run.closed);
     lanes = run.lanes ∙ (ap (λ l. lanes_after_all β p m l (calls_in mark (take run.k lines))) left_is

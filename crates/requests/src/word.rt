@@ -48,7 +48,8 @@ fn reads_law(text: &[u8])
 impl<'a> Word<'a> {
     // The word of a text. It reads as the text does, whatever it looks like.
     pub fn of(text: &'a [u8]) -> Word<'a>
-        ensures { ReadsAs result text.now }
+        ensures case { result ≡ word_of text.entry }
+        ensures reads { ReadsAs result text.now }
     {
         reads_law(text);
         looks_like(text)
