@@ -1,7 +1,7 @@
 -- A batch in the middle of its rows: what was told and what is left to tell are what the whole batch tells.
 use Rattle.std.proofs.Common.{◌≡◌, ℕ, ◌+◌, ◌-◌, ◌<◌, ◌≤◌, ◌++◌, List, [], ◌∷◌, length, take, drop, true, false}
 use Rattle.std.proofs.Common.{nat_lt}
-use Rattle.std.proofs.Common.{refl, sym, ap, ◌∙◌, arith, append_assoc, append-nil, length-append, length-drop}
+use Rattle.std.proofs.Common.{refl, sym, ap, subst, ◌∙◌, arith, append_assoc, append-nil, length-append, length-drop}
 use Rattle.std.proofs.lemmas.Bool.Decides.{nat_tests}
 use Rattle.std.proofs.lemmas.List.{length-take-le, take-append-drop, drop-drop, take_at, drop_at}
 use Rattle.std.specs.List.{AllByRecursion}
@@ -84,13 +84,13 @@ module _ (β p mark : ℕ) (m : Function) (from : List Lane) (all : List (ℕ ×
     run_on free line rest told left some is left_is = rw some rw is rw left_is refl
 
     -- one row more
-    pub running_more : (line : ℕ × List ℕ) (rest : List (ℕ × List ℕ)) (told new : List ℕ) (left : List Lane)
+    more : (line : ℕ × List ℕ) (rest : List (ℕ × List ℕ)) (told new : List ℕ) (left : List Lane)
         → Running β p mark m from all old rows used ls now (line ∷ rest) → 64 ≤ length now - used
         → told ≡ report_line mark line.0 (row_answer β p mark m ls line.1) → length told ≤ 64
         → left ≡ row_lanes β p mark m ls line.1
         → new ≡ take used now ++ (told ++ drop (used + length told) now)
         → Running β p mark m from all old line.0 (used + length told) left new rest
-    running_more line rest told new left running room is short left_is new_is = record {
+    more line rest told new left running room is short left_is new_is = record {
       run =
           ap (λ (text : List ℕ). joined text (run_rows β p mark m line.0 (length new - end) left rest)) front
           ∙ ap (λ (free : ℕ). joined (take used now ++ told) (run_rows β p mark m line.0 free left rest))
@@ -132,3 +132,14 @@ module _ (β p mark : ℕ) (m : Function) (from : List Lane) (all : List (ℕ ×
         size =
             let all = ap length rest_is ∙ length-append (take used now ++ told) (drop end now) in
             omega (arith, all, filled, length-drop end now, running.within, room, short)
+
+    -- the same, where the new end is told beside the line
+    pub running_more : (line : ℕ × List ℕ) (rest : List (ℕ × List ℕ)) (told new : List ℕ) (left : List Lane) (end : ℕ)
+        → Running β p mark m from all old rows used ls now (line ∷ rest) → 64 ≤ length now - used
+        → told ≡ report_line mark line.0 (row_answer β p mark m ls line.1) → end ≡ used + length told → end ≤ used + 64
+        → left ≡ row_lanes β p mark m ls line.1 → new ≡ take used now ++ (told ++ drop end now)
+        → Running β p mark m from all old line.0 end left new rest
+    running_more line rest told new left end running room is end_is short left_is new_is =
+        subst (λ e. Running β p mark m from all old line.0 e left new rest) (sym end_is)
+        (more line rest told new left running room is (omega (arith, end_is, short)) left_is
+        (subst (λ e. new ≡ take used now ++ (told ++ drop e now)) end_is new_is))

@@ -1,15 +1,17 @@
 // Batches of text: each line is a row, whose answer is a line of the report.
 #![tactic(auto)]
 
-ghost use Rattle.std.specs.Prelude.{◌≡◌, ◌+◌, ◌≤◌, ◌++◌, List, length, take, drop};
+ghost use Rattle.std.specs.Prelude.{◌≡◌, ◌+◌, ◌≤◌, ◌<◌, ◌++◌, List, length, take, drop};
 ghost use Rattle.lanes.specs.declared.Lane.{Lane};
 ghost use Rattle.lines.specs.Texts.{numbered_lines};
+ghost use Rattle.reports.specs.Reports.{report_line};
+ghost use Rattle.batch.specs.Rows.{row_answer, row_lanes};
 ghost use Rattle.batch.specs.Batches.{run_rows, refused_text, run_batch, ended, reported};
 ghost use Rattle.batch.specs.Telling.{BatchTells};
 
 use console::Console;
 use ending::{End, Ended};
-use lines::Reader;
+use lines::{Line, Reader};
 use methods::method::Method;
 use reports::report_line;
 use row::answer;
@@ -24,6 +26,31 @@ fn write(report: &mut [u8], used: usize, line: &[u8])
     ensures { report.new ≡ take used report.old ++ (line.now ++ drop (used + length line.now) report.old) }
 {
     report[used..used + line.len()].copy_from_slice(line);
+}
+
+// Runs a row, and writes its line into a report behind what is used of it. The answer is what is used then.
+fn run_row<M: Method>(
+    console: &mut Console<M>,
+    line: Line<'_>,
+    report: &mut [u8],
+    used: usize,
+) -> usize
+    requires number { line.number < 100000 }
+    requires room { used + 64 ≤ length report.old }
+    ensures used { result ≡ used + length (report_line M.Arith.MARK line.entry.number (row_answer M.Arith.RADIX
+        M.Arith.PRECISION M.Arith.MARK (M.Method.answer console.old.method) console.old.lanes line.entry.bytes.now)) }
+    ensures report { report.new ≡ take used report.old ++ (report_line M.Arith.MARK line.entry.number (row_answer
+        M.Arith.RADIX M.Arith.PRECISION M.Arith.MARK (M.Method.answer console.old.method) console.old.lanes
+        line.entry.bytes.now) ++ drop result report.old) }
+    ensures short { result ≤ used + 64 }
+    ensures lanes { console.new.lanes ≡ row_lanes M.Arith.RADIX M.Arith.PRECISION M.Arith.MARK
+        (M.Method.answer console.old.method) console.old.lanes line.entry.bytes.now }
+    ensures method { console.new.method ≡ console.old.method }
+{
+    let outcome = answer(console, line.bytes);
+    let told = report_line::<M::Arith>(line.number, outcome);
+    write(report, used, told.as_slice());
+    used + told.len()
 }
 
 // Runs the rows of a text.
@@ -50,11 +77,7 @@ fn run_rows<M: Method>(console: &mut Console<M>, text: &[u8], report: &mut [u8])
                 end: End::ReportFull,
             };
         }
-        let outcome = answer(console, line.bytes);
-        let told = report_line::<M::Arith>(line.number, outcome);
-        let told = told.as_slice();
-        write(report, used, told);
-        used += told.len();
+        used = run_row(console, line, report, used);
         rows = line.number;
     }
     Ended {

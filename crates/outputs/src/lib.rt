@@ -1,12 +1,12 @@
 // What a program writes for the text that it reads.
 #![tactic(auto)]
 
-ghost use Rattle.std.specs.Prelude.{◌≡◌, IfOk, OnOk};
+ghost use Rattle.std.specs.Prelude.{◌≡◌, ◌++◌, IfOk, OnOk, take};
 ghost use Rattle.lanes.specs.Lanes.{fresh_lanes};
 ghost use Rattle.batch.specs.Telling.{BatchTells};
 ghost use Rattle.outputs.specs.Outputs.{closing, fresh_batch, output_of};
 
-use batch::ending::End;
+use batch::ending::{End, Ended};
 use batch::run;
 use console::Console;
 use methods::method::Method;
@@ -21,6 +21,14 @@ fn closing(end: End) -> &'static [u8]
         End::ReportFull => b"0 no 51 0\n",
         End::TextTooLong => b"0 no 61 0\n",
     }
+}
+
+// Cuts a report to what is used of it, and closes it.
+fn close(report: &mut Vec<u8>, ended: Ended) -> Result<(), AllocError>
+    ensures { OnOk result (report.new.items ≡ take ended.bytes report.old.items ++ closing ended.end) }
+{
+    report.truncate(ended.bytes);
+    report.extend_from_slice(closing(ended.end))
 }
 
 // The whole output for a text: the report of its batch on a new console that holds the method, and the line that
@@ -40,7 +48,6 @@ pub fn output<M: Method + Drop>(
     let mut console = Console::new(method);
     let mut output = vec![in alloc; 0; 65_536]?;
     let ended = run(&mut console, text, &mut output);
-    output.truncate(ended.bytes);
-    output.extend_from_slice(closing(ended.end))?;
+    close(&mut output, ended)?;
     Ok(output)
 }

@@ -1,5 +1,5 @@
 -- Each turn of the loop tells one row more.
-use Rattle.std.proofs.Common.{◌≡◌, ◌≤◌, length, refl, ap, ◌∙◌, subst}
+use Rattle.std.proofs.Common.{◌≡◌, refl, ap, ◌∙◌, subst}
 use Rattle.reports.specs.Reports.{report_line}
 use Rattle.batch.specs.Rows.{row_answer, row_lanes}
 use Rattle.batch.proofs.Numbers.{numbers_small}
@@ -28,16 +28,13 @@ loop-line-preserved g c =
     let ls = c.loop-line.console.lanes in
     let line = c.in-Some.line in
     let method = c.loop-line.invariant.method in
-    let told = subst (λ k. c.as_slice-told.result.now
-    ≡ report_line mark line.number (row_answer β p mark (g.M.Method.answer k) ls line.bytes.now)) method
-    (c.as_slice-told.ensures.value ∙ (c.report_line-told.ensures.text
-    ∙ ap (report_line mark line.number) c.answer-outcome.ensures.answer)) in
-    let short : length c.as_slice-told.result.now ≤ 64 = rw c.as_slice-told.ensures.value
-    (c.report_line-told.ensures.short running.small.0 c.answer-outcome.ensures.few) in
-    let left = subst (λ k. c.answer-outcome.new.console.lanes
-    ≡ row_lanes β p mark (g.M.Method.answer k) ls line.bytes.now) method c.answer-outcome.ensures.lanes in
+    let row = c.run_row-used.ensures in
+    let told = ap (λ k. report_line mark line.number (row_answer β p mark (g.M.Method.answer k) ls line.bytes.now))
+    method in
+    let left = subst (λ k. c.run_row-used.new.console.lanes
+    ≡ row_lanes β p mark (g.M.Method.answer k) ls line.bytes.now) method row.lanes in
     record {
-      running = running_more _ _ _ _ _ _ _ _ _ _ _ _ _ _ _ _ running c.if-report-used-lt64.false told short left
-          c.write.ensures;
-      method = c.answer-outcome.ensures.method ∙ method;
+      running = running_more _ _ _ _ _ _ _ _ _ _ _ _ _ _ _ _ _ running c.if-report-used-lt64.false told row.used
+          row.short left row.report;
+      method = row.method ∙ method;
     }
