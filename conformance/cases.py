@@ -30,7 +30,7 @@ def any_operation(kind, chance):
 
 
 def written(kind, chance):
-    """The edges of each operation for which vectors/make writes tables: ties, their neighbours, carries, cancelling."""
+    """Edges of each operation, as vectors/make writes them: ties and their neighbours, carries, cancelling."""
     narrow = make_kind(kind)
     makers = {"multiply": make.multiply_vectors, "add": make.add_vectors, "fused": make.fused_vectors}
     for operation, maker in makers.items():
@@ -106,8 +106,9 @@ def with_no_figure(kind, chance):
     yield operation, operands
 
 
-# the makers, each as often as it stands here
-MAKERS = [any_operation] * 16 + [written] + [tie_of_sum, beside_powers, cancelling] * 6 + [with_zeros, with_no_figure] * 5
+# The makers, each as often as it stands here. One in 45 is `written`, which makes some 74 operations: half of all.
+SINGLY = [any_operation] * 16 + [with_zeros, with_no_figure] * 5
+MAKERS = SINGLY + [tie_of_sum, beside_powers, cancelling] * 6 + [written]
 
 
 def at_exponent(kind, chance, q):

@@ -9,7 +9,7 @@ import batches
 import cases
 import integers
 from batches import Stopped, line_of, whole_output, word_of
-from common import Kind
+from chances import random_call
 from consoles import LANES, Courses, check_law
 from exact import BINARY, CALLS, DECIMAL, SYMMETRIC, answered, rounded, value
 from tally import Tally
@@ -163,7 +163,8 @@ def methods(name, chance, texts, plant=None):
             calls.append((call, a, b, c, d))
             if call == "sum":
                 calls.append((call, c, d, a, b))
-        rows = asked(name, [line_of(kind, call) for call in calls], plant, range(len(calls)))
+        sums = [place for place, call in enumerate(calls) if call[0] == "sum"]
+        rows = asked(name, [line_of(kind, call) for call in calls], plant, sums)
         tally.check("answers to calls, one for each", len(rows) == len(calls), len(rows))
         before = None
         for number, ((call, *four), row) in enumerate(zip(calls, rows), 1):
@@ -173,7 +174,7 @@ def methods(name, chance, texts, plant=None):
                 same = figures_in(row) == figures_in(rows[number - 2])
                 tally.check("sums of exchanged products, the symmetric method", same, four, row)
             before = None if exchanged else (call, *four)
-        plant = None
+        plant = None  # one answer is changed, and not one of each text
     return tally
 
 
@@ -220,14 +221,10 @@ def lanes(name, chance, texts, plant=None):
 
 def lane_calls(kind, chance):
     """A turn or a restart, and a reading of its lane."""
-    call = next(
-        call for call in iter(lambda: turning_call(kind, chance), None) if call[0] in ("turn", "restart")
-    )
-    return [call, ("read", call[1])]
-
-
-def turning_call(kind, chance):
-    return batches.far_call(kind, chance) if chance.randrange(16) == 0 else batches.random_call(kind, chance)
+    while True:
+        call = batches.far_call(kind, chance) if chance.randrange(16) == 0 else random_call(kind, chance)
+        if call[0] in ("turn", "restart"):
+            return [call, ("read", call[1])]
 
 
 def keeps_law(console, courses, i):
