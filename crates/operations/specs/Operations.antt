@@ -14,7 +14,7 @@ use Rattle.operations.specs.declared.names.Operation.{Operation}
 use Rattle.operations.specs.declared.names.Operation.TheVariants.{Multiply, Add, Fused}
 use Rattle.operations.specs.Names.{kind_of, operation_of}
 
--- the figures of two words under the mark of a kind, and of three; the first word that is no such figure stops the line
+-- the figures of two words under the mark of a kind, and of three: the first word that says none stops the line
 abbrev pub figures_of_two : ℕ → List (List ℕ) → Result (Figure × Figure) ℕ
 figures_of_two mark (x ∷ y ∷ []) = after (figure_in mark x) (λ x. after (figure_in mark y) (λ y. Ok (x, y)))
 figures_of_two mark words = Err (number WordCount)

@@ -1,7 +1,7 @@
 // The answers to lines that ask for an operation, as `binary multiply 8388608p-23 8388609p-23` does.
 #![tactic(auto)]
 
-ghost use Rattle.std.specs.Prelude.{◌≡◌, ◌+◌, ◌≤◌, ◌++◌, IfOk, length, map};
+ghost use Rattle.std.specs.Prelude.{◌≡◌, ◌≤◌, IfOk, map};
 ghost use Rattle.arrayvec.specs.ArrayVec.{array_vec_len};
 ghost use Rattle.rounding.specs.Refusals.{coded};
 ghost use Rattle.operations.specs.Names.{kind_of};
