@@ -23,10 +23,10 @@ enum {
     NEKHVOZU_RESULT_RANGE = 12,       /* the rounded result's exponent is outside -2000..2000 */
     NEKHVOZU_OPERAND_NO_FIGURE = 21,  /* an operand of a sum of products is no figure of the kind */
     NEKHVOZU_OPERAND_RANGE = 22,      /* its exponent is outside -200..200 */
-    NEKHVOZU_NO_ARRANGEMENT = 71,     /* the first argument is none of the three numbers above */
+    NEKHVOZU_NO_ARRANGEMENT = 91,     /* the first argument is none of the three numbers above */
 };
 
-/* The status of a batch, beside 0 and 71. */
+/* The status of a batch, beside 0 and 91. */
 enum {
     NEKHVOZU_REPORT_FULL = 51,   /* fewer than 64 bytes of the report were free before a row */
     NEKHVOZU_TEXT_TOO_LONG = 61, /* the text has more than 65,536 bytes */

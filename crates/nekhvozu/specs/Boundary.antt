@@ -19,7 +19,7 @@ arrangement_of n =
 
 -- the status where no arrangement has the number
 abbrev pub no_arrangement : ℕ
-no_arrangement = 71
+no_arrangement = 91
 
 abbrev pub figure_of : Pair → Figure
 figure_of pair = record { s = pair.s; q = pair.q }

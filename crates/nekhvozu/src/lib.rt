@@ -18,7 +18,7 @@ use methods::method::Method;
 mod boundary;
 
 // The status where no arrangement has the number.
-const NO_ARRANGEMENT: u8 = 71;
+const NO_ARRANGEMENT: u8 = 91;
 
 // The arrangement of a number.
 fn arrangement_of(number: u8) -> Option<Arrangement>
