@@ -99,7 +99,7 @@ def operations(kind_name, chance, count, exponents, floats, plant=None):
     if kind is BINARY:
         places = [place for place in places if all(map(is_normal_float, [*made[place][1], outcomes[place]]))]
     lines = [operation_line(kind, *case) for case in made]
-    damaged = [damaged_line(chance, chance.choice(lines)) for _ in range(count // 40)]
+    damaged = [damaged_line(chance, chance.choice(lines)) for _ in range(len(made) // 40)]
     answers = asked("driver", lines + damaged, plant, places)
     tally.check("answers to lines, one for each", len(answers) == len(lines) + len(damaged), len(answers))
     for case, outcome, words in zip(made, outcomes, answers):
@@ -244,9 +244,9 @@ def whole_batches(name, chance, numbers, plant=None):
     (kind, method), tally = ARRANGEMENTS[name], Tally()
     for n in numbers:
         text = compare_batches.text_by_chance(kind, chance, n)
-        computed = whole_output(kind, method, text).splitlines()
+        computed = whole_output(kind, method, text).split(b"\n")
         run = subprocess.run([program(name)], input=text, stdout=subprocess.PIPE)
-        written = run.stdout.splitlines()
+        written = run.stdout.split(b"\n")
         if plant and any(map(FIGURE.search, written)):
             place = next(place for place, line in enumerate(written) if FIGURE.search(line))
             written[place], plant = plant(written[place]), None
