@@ -23,16 +23,23 @@ pub enum Arrangement {
     Symmetric,
 }
 
-// Its name.
+// The name of an arrangement.
+pub fn name_of(by: Arrangement) -> &'static str
+    ensures { result.now ≡ name_text by }
+{
+    match by {
+        Arrangement::Binary => "binary",
+        Arrangement::Decimal => "decimal",
+        Arrangement::Symmetric => "symmetric",
+    }
+}
+
+// It prints its name.
 impl fmt::Display for Arrangement {
     ghost output = { λ by. Some (name_text by) };
 
     fn fmt<W: fmt::Write>(&self, f: &mut fmt::Formatter<W>) -> fmt::Result {
-        f.write_str(match self {
-            Arrangement::Binary => "binary",
-            Arrangement::Decimal => "decimal",
-            Arrangement::Symmetric => "symmetric",
-        })
+        f.write_str(name_of(*self))
     }
 }
 

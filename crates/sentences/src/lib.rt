@@ -1,12 +1,14 @@
-// What a program says of calls: types that print themselves, with the bytes that they print. Here are figures and
-// outcomes; `operations` has calls made with no console, `consoles` those made of one.
+// What a program says of calls: types that print themselves, with the bytes that they print. Here are figures, names
+// of arrangements, refusals and outcomes; `operations` has calls made with no console, `consoles` those made of one.
 #![tactic(auto)]
 
 ghost use Rattle.std.specs.Prelude.{◌≡◌, Some};
 ghost use Rattle.spelling.specs.Spelled.{text_of};
-ghost use Rattle.sentences.specs.Figures.{figure_text, pair_text, four_text, printed_outcome};
+ghost use Rattle.rounding.specs.Refusals.{number};
+ghost use Rattle.sentences.specs.Figures.{figure_text, pair_text, four_text, refusal_text, printed_outcome};
 
 use checked_calls::calls::Arrangement;
+pub use checked_calls::calls::name_of;
 use kinds::{Binary, Decimal};
 use rounding::{Figure, Refusal};
 use spelling::spell;
@@ -90,7 +92,21 @@ impl fmt::Display for Four {
     }
 }
 
-// What a call answered: a value, or a refusal, by its number.
+// A refusal, by its number.
+#[derive(Clone, Copy)]
+pub struct Refused {
+    pub refusal: Refusal,
+}
+
+impl fmt::Display for Refused {
+    ghost output = { λ x. Some (refusal_text (number x.refusal)) };
+
+    fn fmt<W: fmt::Write>(&self, f: &mut fmt::Formatter<W>) -> fmt::Result {
+        write!(f, "refused with {}", self.refusal)
+    }
+}
+
+// What a call answered: a value, or a refusal.
 #[derive(Clone, Copy)]
 struct Outcome<T> {
     answer: Result<T, Refusal>,
@@ -102,7 +118,7 @@ impl<T: fmt::Display> fmt::Display for Outcome<T> {
     fn fmt<W: fmt::Write>(&self, f: &mut fmt::Formatter<W>) -> fmt::Result {
         match &self.answer {
             Ok(value) => write!(f, "{value}"),
-            Err(refusal) => write!(f, "refused with {refusal}"),
+            Err(refusal) => write!(f, "{}", Refused { refusal: *refusal }),
         }
     }
 }
