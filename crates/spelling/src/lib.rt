@@ -1,7 +1,9 @@
 // The text of a figure: its significand, the mark of its kind and its exponent, both numbers in decimal.
 #![tactic(auto)]
 
-ghost use Rattle.std.specs.Prelude.{◌≡◌, Some};
+ghost use Rattle.std.specs.Prelude.{◌≡◌, ◌+◌, ◌≤◌, ◌++◌, Some};
+ghost use Rattle.std.specs.Fmt.{signed_decimal};
+ghost use Rattle.arrayvec.specs.ArrayVec.{array_vec_len};
 ghost use Rattle.spelling.specs.Spelled.{spelled, text_of};
 
 use arrayvec::ArrayVec;
@@ -13,18 +15,30 @@ use text::Spelling;
 
 pub mod text;
 
+// Writes a number behind a text. One digit is written at once, since the figure that is met most often is zero.
+#[tactic(auto, using(crate::proofs::Digits::one_digit))]
+fn push_number(text: &mut ArrayVec<u8, 23>, number: i32)
+    requires { array_vec_len text.old ≤ 12 }
+    ensures text { text.new.items ≡ text.old.items ++ signed_decimal number }
+    ensures len { array_vec_len text.new ≤ array_vec_len text.old + 11 }
+{
+    if (0..10).contains(&number) {
+        text.push(b'0' + number as u8);
+    } else {
+        text.try_extend_from_slice(Buffer::new().format(number).as_bytes())
+            .unwrap();
+    }
+}
+
 // The text of `f` under the mark of the kind K. It does not ask that `f` is a figure of that kind, so that a report
 // can show any pair of numbers.
 pub fn spell<K: Kind>(f: Figure) -> Spelling
     ensures { text_of result ≡ spelled K.MARK f.s f.q }
 {
-    let mut number = Buffer::new();
-    let mut text = ArrayVec::<u8, 23>::new();
-    text.try_extend_from_slice(number.format(f.s).as_bytes())
-        .unwrap();
+    let mut text = ArrayVec::new();
+    push_number(&mut text, f.s);
     text.push(K::MARK);
-    text.try_extend_from_slice(number.format(f.q).as_bytes())
-        .unwrap();
+    push_number(&mut text, f.q);
     Spelling::keep(text.as_slice())
 }
 
